@@ -1,7 +1,7 @@
 /** Further questions on a table. Each says what the answer means, and shows the program's own text. */
 import { tableAnswers } from "./answers.js";
 import { drawBehaviours, shareInWords, sharesTable } from "./benchmark.js";
-import { button, folded, keepFile, labelled, listOf, make, printed, say } from "./dom.js";
+import { button, folded, keepFile, labelled, listOf, make, printed, say, tableOf } from "./dom.js";
 import { MOST_SEED } from "./draws.js";
 import { limit, range } from "./facts.js";
 import { fileOf, intervalPicture } from "./pictures.js";
@@ -14,8 +14,9 @@ import {
   parseFault,
   parseReport,
   placesOf,
+  withDecimal,
 } from "./reports.js";
-import { demandBounds, demandSays, powerSays, pumpSays, utilitySays, welfareSays } from "./says.js";
+import { demandBounds, demandSays, powerSays, pumpSays, utilitySays, welfareBounds, welfareSays } from "./says.js";
 import { sentence } from "./sentences.js";
 import { bytesOf, parseRecords, placeInFile, placeInWords, writeRecords } from "./sheets.js";
 
@@ -136,6 +137,17 @@ export function pricePlacesOf(text) {
   return Math.max(0, ...records.slice(1).flatMap((row) => priced.map((at) => placesOf(row[at] ?? ""))));
 }
 
+/** Bounds of welfare as a table, and in words for the first observation. */
+function boundsByObservation(bounds) {
+  const told = (value) => (value === null ? "withheld" : withDecimal(value));
+  const rows = bounds.map((it) => [String(it.record), it.observation, told(it.lower), told(it.upper), it.at]);
+  const names = ["record", "observation", "at least", "at most", "by the bundle of"];
+  return [
+    tableOf(names, rows, "what it costs to be as well off"),
+    say(`In words, of the first row: ${welfareSays(bounds[0])}`),
+  ];
+}
+
 function welfareQuestion(client, file, table) {
   const prices = table.prices[0].map((it) => decimal(it, table.pricePlaces));
   const field = area(`${table.goods.map((it) => `p_${it}`).join(",")}\n${prices.join(",")}\n`);
@@ -148,8 +160,8 @@ function welfareQuestion(client, file, table) {
   ], async (place) => {
     const typed = { name, bytes: bytesOf(field.value) };
     const answer = await client.answer(["welfare", file.name, name], [file, typed]);
-    const says = welfareSays(answer.output, pricePlacesOf(field.value) + table.quantityPlaces);
-    const shown = answer.status !== 0 ? [] : says.length ? [listOf(says)] : [violated("welfare")];
+    const bounds = welfareBounds(answer.output, pricePlacesOf(field.value) + table.quantityPlaces);
+    const shown = answer.status !== 0 ? [] : bounds.length ? boundsByObservation(bounds) : [violated("welfare")];
     showAnswer(place, answer, shown, typed);
   });
 }

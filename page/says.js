@@ -24,19 +24,28 @@ export function demandSays({ name, lower, upper }) {
 
 const WELFARE = /^welfare prices (.*) observation (\d+) lower (\S+|withheld \d+) upper (\S+) at (\d+)$/;
 
-/** What a report of welfare says, by record and observation, in the units of money; `places` are those of the file. */
-export function welfareSays(output, places) {
+/**
+ * The bounds of a report of welfare, in the units of money; `places` are those of the file, `record` counts new prices.
+ */
+export function welfareBounds(output, places) {
+  let record = 0;
   return output.split("\n").flatMap((line) => {
     const it = WELFARE.exec(line);
     if (!it) return [];
     const [, , observation, lower, upper, at] = it;
-    const values = { observation, at, upper: withDecimal(inUnits(upper, places)) };
-    const below = isWithheld(lower)
-      ? sentence("welfare", "bounds", { bound: "lower withheld" })
-      : sentence("welfare", "bounds", { bound: "lower" }, { ...values, lower: withDecimal(inUnits(lower, places)) });
-    const above = sentence("welfare", "bounds", { bound: "upper" }, values);
-    return [`Observation ${observation}: ${below.says} ${above.says}`];
+    if (observation === "1") record += 1;
+    const units = (text) => (isWithheld(text) ? null : inUnits(text, places));
+    return [{ record, observation, lower: units(lower), upper: units(upper), at }];
   });
+}
+
+/** What the bounds on one observation say. */
+export function welfareSays({ observation, lower, upper, at }) {
+  const values = { observation, at, upper: withDecimal(upper) };
+  const below = lower === null
+    ? sentence("welfare", "bounds", { bound: "lower withheld" })
+    : sentence("welfare", "bounds", { bound: "lower" }, { ...values, lower: withDecimal(lower) });
+  return `${below.says} ${sentence("welfare", "bounds", { bound: "upper" }, values).says}`;
 }
 
 /** What a report of utility says, a sentence for each bundle. */

@@ -384,9 +384,15 @@ export class Mapping {
     return this.roles.map(({ role, good }, at) => (role === "same" ? header[at] : name[role]?.(good)));
   }
 
-  /** The columns that go to the program, by their places in the file. */
+  /**
+   * The columns that go to the program, by their places in the file. Of two intercepts the later comes first, so that
+   * the
+   * goods, whose prices they are the other way round, come in the order of the file.
+   */
   get kept() {
-    return this.roles.flatMap((it, at) => (["out", "household", "open"].includes(it.role) ? [] : [at]));
+    const kept = this.roles.flatMap((it, at) => (["out", "household", "open"].includes(it.role) ? [] : [at]));
+    const lines = kept.filter((at) => this.roles[at].role === "most").reverse();
+    return kept.map((at) => (this.roles[at].role === "most" ? lines.shift() : at));
   }
 
   apply(records) {

@@ -40,6 +40,7 @@ import {
   populationSays,
   pumpSays,
   utilitySays,
+  welfareBounds,
   welfareSays,
 } from "./says.js";
 import { sentence, sentences } from "./sentences.js";
@@ -303,9 +304,9 @@ test("x_max is no quantity by guess, and intercepts are exchanged where the colu
   assert.equal(lacksOf(mapping, header), "");
   // the price of x is the intercept of y, and the other way round
   assert.deepEqual(mapping.apply(records), [
-    ["obs", "p_y", "p_x", "q_x", "q_y"],
-    ["1", "40", "80", "10", "60"],
-    ["2", "90", "60", "30", "40"],
+    ["obs", "p_x", "p_y", "q_x", "q_y"],
+    ["1", "80", "40", "10", "60"],
+    ["2", "60", "90", "30", "40"],
   ]);
   const alone = Mapping.suggested(["x_max", "p_a", "q_a"], []);
   assert.deepEqual(alone.roles.map((it) => it.role), ["out", "same", "same"]);
@@ -434,10 +435,15 @@ test("what is said of populations and firms", () => {
 test("welfare, demand, utility and the money pump in words, in the units of the file", () => {
   const welfare = "welfare prices 15 observation 1 lower 1250/3 upper 450 at 2\n" +
     "welfare prices 15 observation 2 lower withheld 3 upper 300 at 2\n";
-  const [first, second] = welfareSays(welfare, 2);
-  assert.match(first, /^Observation 1: .* needs at least 25\/6 \(about 4\.1666\) /);
-  assert.match(first, / observation 2 .* costs 9\/2 \(4\.5\)/);
-  assert.match(second, /^Observation 2: A number got longer .* costs 3 at the new prices/);
+  const found = welfareBounds(welfare, 2);
+  assert.deepEqual(found, [
+    { record: 1, observation: "1", lower: "25/6", upper: "9/2", at: "2" },
+    { record: 1, observation: "2", lower: null, upper: "3", at: "2" },
+  ]);
+  const [first, second] = found.map(welfareSays);
+  assert.match(first, /^Whoever .* needs at least 25\/6 \(about 4\.1666\) .* as at observation 1\./);
+  assert.match(first, / the bundle of observation 2 .* costs 9\/2 \(4\.5\)/);
+  assert.match(second, /^A number got longer .* costs 3 at the new prices/);
   const bounds = demandBounds("good 1 lower 5 upper withheld 3\n", ["tea"], 1);
   assert.deepEqual(bounds, [{ name: "tea", lower: "1/2", upper: null }]);
   assert.match(demandSays(bounds[0])[0], /^tea: Nobody .* less of tea there than 1\/2 \(0\.5\)/);
