@@ -23,6 +23,6 @@ function rp_build(folder)
     mex(['-I', folder], sources{:});
     setenv('CFLAGS', flags);
   else
-    mex('-R2018a', 'COPTIMFLAGS=-O1', ['-I', folder], sources{:});
+    mex('COPTIMFLAGS=-O1', ['-I', folder], sources{:});
   end
 end

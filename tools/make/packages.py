@@ -127,6 +127,13 @@ R_PART = """/* Part {part} of the library, which is one C file. */
 #define RP_PART {part}
 #include "onefile/rp.c"
 """
+R_MAKEVARS = """# Of the library as C, -O2 takes twice as long to compile and runs a sixth faster, and nobody debugs what was translated.
+all: $(SHLIB)
+"""
+R_RULE = """
+part{part}.o: part{part}.c onefile/rp.c onefile/rp.h
+\t$(CC) $(ALL_CPPFLAGS) $(ALL_CFLAGS) -O1 -g0 -c part{part}.c -o part{part}.o
+"""
 R_INSIDE = """/* The library inside the package: the one of onefile/. */
 #include "onefile/rp.h"
 
@@ -146,6 +153,7 @@ def r(entries, one_file, parts, notice, proved, when, archive, program):
     own = built_by_r(own, when, program) or own
     own |= {f"src/onefile/{name}": one_file[name].encode() for name in ("rp.c", "rp.h")}
     own |= {f"src/part{it}.c": R_PART.format(part=it).encode() for it in range(parts + 1)}
+    own["src/Makevars"] = (R_MAKEVARS + "".join(R_RULE.format(part=it) for it in range(parts + 1))).encode()
     own |= {"src/inside.c": R_INSIDE.encode(), "inst/NOTICE": notice.encode(), "inst/PROVED": proved.encode()}
     own["inst/terms/LICENSE"] = entries["LICENSE"][0]
     version = re.search(r"(?m)^Version: (.*)$", own["DESCRIPTION"].decode())[1]
