@@ -184,7 +184,10 @@ async function answerPanel(slot, own) {
     await panel.run(began);
     return true;
   });
-  if (isWhole) shows.tell(`${households.length} households and ${panel.random.length} random behaviours: answered.`);
+  const waited = `in ${((performance.now() - began) / 1000).toFixed(1)} s`;
+  if (isWhole) {
+    shows.tell(`${households.length} households and ${panel.random.length} random behaviours ${waited}: answered.`);
+  }
   panel.show(true);
   shows.questions(...panelQuestions(client, households, shows));
 }
@@ -253,10 +256,11 @@ KINDS.forEach((it, number) => {
 });
 at("stop").addEventListener("click", () => client.stop());
 at("command").append(...commandForm(client, EXAMPLES));
-document.addEventListener("dragover", (event) => event.preventDefault());
+const choosesFile = (event) => Boolean(event.target.closest?.("input[type=file]"));
+document.addEventListener("dragover", (event) => choosesFile(event) || event.preventDefault());
 document.addEventListener("drop", (event) => {
-  const isTaken = event.defaultPrevented;
-  event.preventDefault();
+  const isTaken = event.defaultPrevented || choosesFile(event);
+  if (!choosesFile(event)) event.preventDefault();
   const files = [...(event.dataTransfer?.files ?? [])];
   if (!isTaken && files.length) takeDropped(files);
 });

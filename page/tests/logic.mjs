@@ -435,7 +435,7 @@ test("welfare, demand, utility and the money pump in words, in the units of the 
   const welfare = "welfare prices 15 observation 1 lower 1250/3 upper 450 at 2\n" +
     "welfare prices 15 observation 2 lower withheld 3 upper 300 at 2\n";
   const [first, second] = welfareSays(welfare, 2);
-  assert.match(first, /^Observation 1: .* costs at least 25\/6 \(about 4\.1666\) /);
+  assert.match(first, /^Observation 1: .* needs at least 25\/6 \(about 4\.1666\) /);
   assert.match(first, / observation 2 .* costs 9\/2 \(4\.5\)/);
   assert.match(second, /^Observation 2: A number got longer .* costs 3 at the new prices/);
   const bounds = demandBounds("good 1 lower 5 upper withheld 3\n", ["tea"], 1);

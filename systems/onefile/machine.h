@@ -6,7 +6,9 @@
  * Group participants, Apache License 2.0), whose names the translation has. Other than there, memory is little-endian on
  * every system, what stops a call jumps to where the instance was entered, and no signal is handled.
  */
+#include <float.h>
 #include <limits.h>
+#include <math.h>
 #include <setjmp.h>
 #include <stddef.h>
 #include <stdint.h>
@@ -28,6 +30,9 @@
 #if (-3 >> 1) != -2
 #error "rp.c wants a compiler whose shifts to the right keep the sign"
 #endif
+#if FLT_RADIX != 2 || DBL_MANT_DIG != 53 || DBL_MAX_EXP != 1024
+#error "rp.c wants a compiler whose doubles are those of 64 bits of IEEE 754"
+#endif
 
 typedef uint8_t u8;
 typedef int8_t s8;
@@ -37,6 +42,8 @@ typedef uint32_t u32;
 typedef int32_t s32;
 typedef uint64_t u64;
 typedef int64_t s64;
+/* Variables of it are volatile, so that each operation is rounded by itself, as in WebAssembly. */
+typedef double f64;
 
 #if defined(__GNUC__)
 #define LIKELY(x) __builtin_expect(!!(x), 1)
@@ -154,6 +161,26 @@ DEFINE_STORE(i32_store16, 16, u32)
 DEFINE_STORE(i64_store8, 8, u64)
 DEFINE_STORE(i64_store16, 16, u64)
 DEFINE_STORE(i64_store32, 32, u64)
+
+HELPER u64 i64_reinterpret_f64(f64 number) {
+    u64 bits;
+    memcpy(&bits, &number, sizeof bits);
+    return bits;
+}
+
+HELPER f64 f64_reinterpret_i64(u64 bits) {
+    f64 number;
+    memcpy(&number, &bits, sizeof number);
+    return number;
+}
+
+HELPER f64 f64_load(wasm_rt_memory_t *memory, u64 address) {
+    return f64_reinterpret_i64(i64_load(memory, address));
+}
+
+HELPER void f64_store(wasm_rt_memory_t *memory, u64 address, f64 number) {
+    i64_store(memory, address, i64_reinterpret_f64(number));
+}
 
 HELPER void memory_fill(wasm_rt_memory_t *memory, u32 to, u32 value, u32 count) {
     CHECK(memory, to, count);

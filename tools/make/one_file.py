@@ -154,6 +154,7 @@ def renamed(words):
     """Gives the functions names of their own, apart from all other libraries, and the instance's type its own."""
     words = re.sub(r"\bstatic (u32|u64|void) w2c_(\w+)\(Z_rp_instance_t\*", r"RP_FUNCTION \1 rp_w2c_\2(Instance *", words)
     words = re.sub(r"\bw2c_(\w+)\((instance\b|Z_rp_instance_t)", r"rp_w2c_\1(\2", words)
+    words = re.sub(r"(?m)^  f64 (?=w2c_)", "  volatile f64 ", words)
     return words.replace("Z_rp_instance_t", "Instance")
 
 

@@ -1,14 +1,16 @@
 function rp_refuse(told, files)
 % RP_REFUSE  Raises the refusal of a file, as in 'rp: table.csv: ZeroPrice record 1 column 2', with what stands there and a hint.
-  found = regexp(told, '^rp: (?:([\w-]+\.\w+): )?(([A-Z]\w*)(?: (?:record|column|budget|menu|item) \d+)*)$', 'tokens', 'once');
-  if isempty(found)
+  name = regexp(told, '^rp: ([\w-]+\.\w+): ', 'tokens', 'once');
+  if isempty(name)
+    name = '';
+  else
+    name = name{1};
+  end
+  said = regexprep(told, '^rp: (?:[\w-]+\.\w+: )?', '');
+  fault = regexp(said, '^[A-Z]\w*(?=(?: (?:record|column|budget|menu|item) \d+)*$)', 'match', 'once');
+  if isempty(fault)
     error('rp:Failed', 'the library refused the data, and said: %s', told);
   end
-  name = '';
-  if numel(found) == 3
-    name = found{1};
-  end
-  [fault, said] = deal(found{end}, found{end - 1});
   where = rp_place(name, said, files);
   hint = '';
   if strcmp(fault, 'TooManyDecimals')

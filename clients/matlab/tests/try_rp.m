@@ -71,7 +71,7 @@ refused(@() rp_analyse([NaN 1], [1 1]), 'rp:Refused:BadNumber', 'value NaN');
 refused(@() rp_analyse([1 1], [-1 1]), 'rp:Refused:BadNumber', 'record 1 column 3');
 refused(@() rp_analyse([1 1], [0 0]), 'rp:Refused:ZeroBundle', 'record 1');
 refused(@() rp_analyse([10000000 1], [1 1]), 'rp:Refused:TooLarge', 'record 1 column 1');
-refused(@() rp_analyse(ones(513, 1), ones(513, 1)), 'rp:Refused:TooManyRecords', '');
+refused(@() rp_analyse(ones(513, 1), ones(513, 1)), 'rp:Refused:TooManyRecords', 'TooManyRecords of table.csv');
 refused(@() rp_analyse(single([1 1]), [1 1]), 'rp:BadData', 'single');
 refused(@() rp_analyse([1 1], [1 1 1]), 'rp:BadData', 'one size');
 refused(@() rp_analyse([1 1], [1 1], 'Level', 1), 'rp:BadData', 'the options here are');
@@ -104,7 +104,7 @@ if ~isempty(program) && ~isempty(examples)
     own = words(cellfun(@(it) exist(fullfile(examples, it), 'file') == 2, words));
     bytes = cellfun(@(it) uint8(fileread(fullfile(examples, it))), own, 'UniformOutput', false);
     [got_status, got] = rp_mex(cellfun(@uint8, words, 'UniformOutput', false), cellfun(@uint8, own, 'UniformOutput', false), bytes);
-    same({got_status, char(got)}, {status, wanted}, strjoin(words, ' '));
+    same({got_status, char(got(:)')}, {status, wanted(:)'}, strjoin(words, ' '));
     count = count + 1;
   end
 end
