@@ -66,7 +66,7 @@ said <- run(
   "R CMD check", c("CMD", "check", "--as-cran", "--no-manual", if (has_latex) "--no-vignettes" else "--ignore-vignettes", basename(tarball)), at = plain,
   env = c(
     paste0("R_CRAN_WEB=file://", plain, "/web"), "_R_CHECK_CRAN_INCOMING_=false", "_R_CHECK_FORCE_SUGGESTS_=false",
-    "_R_CHECK_FUTURE_FILE_TIMESTAMPS_=false", "_R_CHECK_SYSTEM_CLOCK_=false", if (!nzchar(Sys.which("qpdf"))) "_R_CHECK_DOC_SIZES_=false", if (nzchar(released)) "RP_EXEC= RP_LIBRARY= PATH=/usr/bin:/bin"
+    "_R_CHECK_FUTURE_FILE_TIMESTAMPS_=false", "_R_CHECK_SYSTEM_CLOCK_=false", if (!all(nzchar(Sys.which(c("qpdf", "gs"))))) "_R_CHECK_DOC_SIZES_=false", if (nzchar(released)) "RP_EXEC= RP_LIBRARY= PATH=/usr/bin:/bin"
   )
 )
 ended <- grep("^Status:", said, value = TRUE)
