@@ -6,7 +6,7 @@ have no others, what finds all that it has.
 import re
 
 CAMEL = r"[A-Z][a-z]+(?:[A-Z][a-z]+)+"
-# What ./rp and rp.c add to the statuses, and what is no limit that a user meets.
+# What ./rp and the library as one C file add to the statuses, and what is no limit that a user meets.
 OF_THE_SCRIPT, INNER = "70", {"walk.observations"}
 # What is found nowhere: a limit of which FORMATS_LIMITS has no phrase yet.
 NEVER = r"(?!)"
@@ -149,8 +149,12 @@ def of_release(facts):
             case = rf"^ *(?:\w+ \| )*{it['name']}(?: \| \w+)*\) options=\""
             yield Place("release/rp.bash", f"options of {it['name']}", {one: case + rf"[^\"]*{one}\b" for one in own})
     yield Place(
-        "library/rp.h", "statuses", {str(it["number"]): rf"^    RP_\w+ = {it['number']}\b" for it in statuses},
-        lambda own: set(all_of(r"^    RP_\w+ = (\d+)")(own)) - {OF_THE_SCRIPT}, None, "99"
+        "library/rp.h",
+        "statuses",
+        {str(it["number"]): rf"^    RP_\w+ = {it['number']}\b" for it in statuses},
+        lambda own: set(all_of(r"^    RP_\w+ = (\d+)")(own)) - {OF_THE_SCRIPT},
+        None,
+        "99",
     )
 
 
