@@ -1,5 +1,5 @@
 # Runs a program of this repository for the script that takes this in, ./rp or ./rp-wide, in the caller's folder, with the
-# caller's words and status. `home` is the repository's folder, and `crate` that of the program.
+# caller's words and status. `home` is the repository's folder; `name` the program's, and `crate` its crate's.
 #
 # Where the program that lies here was proved from the sources that lie here, that program answers. What ./prove kept
 # beside it tells: first names, sizes and times, and where these differ, as in a copy of the tree, checksums, which need
@@ -42,7 +42,7 @@ if [ -x "$home/$program" ]; then
     exec "$home/$program" "$@"
   fi
   if is_another; then
-    echo "$(echo "$crate" | tr _ -): $program is not the program that was proved here. $home/prove proves and builds it again;" \
+    echo "$name: $program is not the program that was proved here. $home/prove proves and builds it again;" \
       "$home/prove --keep takes the one that stands there, where rt ci or rt run has just built it" >&2
     exit 70
   fi
