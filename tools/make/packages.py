@@ -99,7 +99,7 @@ def debian(entries, programs, library, version, libc, when, archive):
         files[f"usr/share/man/man1/{it}.1.gz"] = (pressed(entries[f"share/man/man1/{it}.1"][0]), False)
         files[f"usr/share/bash-completion/completions/{it}"] = entries[f"share/bash-completion/completions/{it}"]
     folder = f"usr/share/doc/{NAME}"
-    documents = ("docs/", "examples/", "clients/panel/")
+    documents = ("docs/", "examples/", "clients/panel/", "crates/")
     for name in ("NOTICE", "PROVED", "README.md", *(it for it in entries if it.startswith(documents))):
         files[f"{folder}/{name}"] = entries[name]
     # Among the documents the panel stands where these have it, and is the command.
