@@ -1,3 +1,2 @@
 pub mod CallEndings
-pub mod NamedFiles
 pub mod RunEndings

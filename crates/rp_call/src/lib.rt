@@ -6,9 +6,7 @@ mod asking;
 mod calling;
 mod ending;
 mod files;
-mod naming;
 mod running;
 
 pub use calling::answer;
 pub use ending::Ending;
-pub use naming::name_files;
