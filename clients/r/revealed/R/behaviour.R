@@ -109,8 +109,9 @@ behaviour <- function(budgets) {
 
 # ---- tables
 
-rp_table <- function(panel, random = NULL, what = c("summary", "households"), format = c("text", "latex"), digits = 3,
-                     names = c("Households", "Random"), tests = c("garp", "homothetic", "quasilinear")) {
+rp_panel_table <- function(panel, random = NULL, what = c("summary", "households"), format = c("text", "latex"),
+                           digits = 3, names = c("Households", "Random"),
+                           tests = c("garp", "homothetic", "quasilinear")) {
   if (!inherits(panel, "rp_panel")) bad_data("a table is made of what rp_panel gives")
   if (!is.null(random) && (!inherits(random, "rp_panel") || random$ask != panel$ask)) {
     bad_data("random is a panel of the same kind, as rp_random_panel makes it")

@@ -43,4 +43,4 @@ if (!is.null(rp_program(must = FALSE))) {
   print(rp_panel(long, "household", workers = 2))
 }
 }
-\seealso{\code{\link{plot.rp_panel}}, \code{\link{rp_table}}, \code{\link{rp_random_panel}}}
+\seealso{\code{\link{plot.rp_panel}}, \code{\link{rp_panel_table}}, \code{\link{rp_random_panel}}}

@@ -63,7 +63,7 @@ stopifnot(grepl("money of its own", conditionMessage(caught(rp_pump(lines), "rp_
 two <- cbind(s = 1, lines)
 stopifnot(grepl("money of its own", conditionMessage(caught(rp_panel(two, "s", ask = "pump"), "rp_bad_data"))))
 of_lines <- rp_panel(two, "s", workers = 1)
-stopifnot(!"quasilinear" %in% rownames(summary(of_lines)$table), !any(grepl("uasilinear", texts(rp_table(of_lines, rp_random_panel(of_lines, 2, 1))))))
+stopifnot(!"quasilinear" %in% rownames(summary(of_lines)$table), !any(grepl("uasilinear", texts(rp_panel_table(of_lines, rp_random_panel(of_lines, 2, 1))))))
 drawn <- rp_random_panel(of_lines, 1, 1)$data
 stopifnot(setdiff(names(drawn), c(names(lines), "draw", "obs")) == character(), drawn$i_x / drawn$i_x[1] == as.numeric(lines$i_x) / as.numeric(lines$i_x[1]))
 caught(rp_test(lines[-2]), "rp_refused")
@@ -263,18 +263,18 @@ plot(rp_panel(many, "id", ask = "pump", workers = 2))
 caught(plot(rp_test(matrix(1), matrix(1))), "rp_bad_data")
 caught(plot(people, P), "rp_bad_data")
 grDevices::dev.off()
-lines <- texts(rp_table(people, random))
+lines <- texts(rp_panel_table(people, random))
 stopifnot(any(grepl("^GARP holds +[0-9]+ of 30 \\([0-9.]+%\\) +[0-9]+ of 60 \\([0-9.]+%\\)$", lines)), any(grepl("^Number +30 +60$", lines)))
-lines <- texts(rp_table(people, random, format = "latex"))
+lines <- texts(rp_panel_table(people, random, format = "latex"))
 stopifnot(lines[1] == "\\begin{tabular}{lrr}", lines[length(lines)] == "\\end{tabular}", any(grepl("^GARP holds & [0-9]+ of 30 \\([0-9.]+\\\\%\\) & ", lines)))
 # what is withheld counts, as what may hold or not; what has no answer does not
 told <- revealed:::share_told
 stopifnot(told(rep(c(TRUE, NA, FALSE), c(8, 9, 33))) == "between 8 and 17 of 50 (16.0% to 34.0%), 9 withheld", told(c(TRUE, FALSE)) == "1 of 2 (50.0%)")
 refused <- rp_panel(data.frame(id = c(1, 1, 2), p_a = c(1, 2, 0), p_b = c(2, 1, 1), q_a = 1:3, q_b = c(2, 1, 1)), "id", workers = 1)
-stopifnot(any(grepl("^Quasilinear holds +0 of 1 \\(0.0%\\)$", texts(rp_table(refused)))), sum(summary(refused)$table["garp", ]) == 1)
+stopifnot(any(grepl("^Quasilinear holds +0 of 1 \\(0.0%\\)$", texts(rp_panel_table(refused)))), sum(summary(refused)$table["garp", ]) == 1)
 odd <- many[many$id <= 2, ]
 odd$id <- ifelse(odd$id == 1, "50% of A&B_{1}$", "\\end~^#")
-lines <- texts(rp_table(rp_panel(odd, "id", workers = 1), what = "households", format = "latex"))
+lines <- texts(rp_panel_table(rp_panel(odd, "id", workers = 1), what = "households", format = "latex"))
 stopifnot(grepl("50\\% of A\\&B\\_\\{1\\}\\$", lines[5], fixed = TRUE), grepl("\\textbackslash{}end\\textasciitilde{}\\textasciicircum{}\\#", lines[6], fixed = TRUE))
 shown <- revealed:::shown_index
 stopifnot(shown(revealed:::exact(c("1", "9999/10000", "0", "1/10000", "4/5"))) == c("1.000", "0.999", "0.000", "<0.001", "0.800"))

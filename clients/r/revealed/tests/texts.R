@@ -32,7 +32,7 @@ calls <- list(
   rp_cost = list(technology = firm, new = data.frame(w_a = 1, y = 1)), rp_check = list(data = frame, certificate = held),
   rp_checkrandom = list(budgets = budgets, choices = choices, certificate = rp_random(budgets, choices, per = 4)$certificate, per = 4),
   rp_panel = list(data = long, id = "id", ask = "test", workers = 1, progress = FALSE),
-  rp_random_panel = list(panel = people, times = 1, seed = 1, workers = 1), rp_table = list(panel = people, what = "summary", format = "text", digits = 3)
+  rp_random_panel = list(panel = people, times = 1, seed = 1, workers = 1), rp_panel_table = list(panel = people, what = "summary", format = "text", digits = 3)
 )
 tried <- 0
 # Tries a call, which has to end in an answer or in an error of this package.
@@ -46,7 +46,7 @@ for (name in names(calls)) {
   own <- calls[[name]]
   stopifnot(!inherits(tryCatch(do.call(name, own), rp_error = identity), "error"))
   for (text in crafted) {
-    for (argument in union(names(own), if (name != "rp_table") "exe")) {
+    for (argument in union(names(own), if (name != "rp_panel_table") "exe")) {
       given <- own
       given[[argument]] <- text
       try_call(name, given, paste(argument, "=", text))

@@ -1,5 +1,5 @@
-\name{rp_table}
-\alias{rp_table}
+\name{rp_panel_table}
+\alias{rp_panel_table}
 \alias{print.rp_lines}
 \alias{as.character.rp_lines}
 \title{A Table of a Panel, as Text and as LaTeX}
@@ -7,7 +7,7 @@
 Makes the table that a paper has of a panel: how many meet each test, and the distribution of the index; or a row for each household.
 }
 \usage{
-rp_table(panel, random = NULL, what = c("summary", "households"),
+rp_panel_table(panel, random = NULL, what = c("summary", "households"),
   format = c("text", "latex"), digits = 3, names = c("Households", "Random"),
   tests = c("garp", "homothetic", "quasilinear"))
 }
@@ -31,7 +31,7 @@ if (!is.null(rp_program(must = FALSE))) {
     q_x = c(2, 1, 1, 2), q_y = c(1, 2, 2, 1)
   )
   people <- rp_panel(long, "id", workers = 2)
-  rp_table(people)
-  rp_table(people, what = "households", format = "latex")
+  rp_panel_table(people)
+  rp_panel_table(people, what = "households", format = "latex")
 }
 }
