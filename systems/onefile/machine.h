@@ -30,6 +30,9 @@
 #if (-3 >> 1) != -2
 #error "rp.c wants a compiler whose shifts to the right keep the sign"
 #endif
+#if FLT_EVAL_METHOD < 0 || FLT_EVAL_METHOD > 1 || defined(__FAST_MATH__)
+#error "rp.c wants doubles that are rounded after each operation: for x86 of 32 bits say -msse2 -mfpmath=sse; no -ffast-math"
+#endif
 #if FLT_RADIX != 2 || DBL_MANT_DIG != 53 || DBL_MAX_EXP != 1024
 #error "rp.c wants a compiler whose doubles are those of 64 bits of IEEE 754"
 #endif

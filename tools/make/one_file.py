@@ -52,9 +52,14 @@ def calls():
     return found
 
 
-def exports():
-    """Returns the names that the module gives out."""
-    return ("malloc", "free", *(name for name, _ in calls()))
+def probe(room):
+    """Returns the file of a small module that asks what the translated functions stand on, and that module."""
+    objects = [
+        systems.compile_one("wasm", f"{systems.SOURCES}/{it}", f"{room}/{os.path.basename(it)}.o", room)
+        for it in ("onefile/probe.c", "wasm_heap.c", "wasm_guard.c")
+    ]
+    module = systems.linked_wasm(objects, ("rp_answer", "malloc", "free"), f"{room}/probe.wasm", room)
+    return file_of(module, room, "none", [it for it in calls() if it[0] == "rp_answer"]), module
 
 
 def arguments_of(name, parameters):
@@ -167,11 +172,11 @@ def in_parts(bodies):
     return parts
 
 
-def file_of(module, room, sum_):
-    """Returns the text of rp.c."""
+def file_of(module, room, sum_, its_calls):
+    """Returns the text of rp.c, with these calls of the module."""
     its = Translation(*translated(module, room))
     names = {it[0] for it in re.findall(r"w2c_(\w+)(\()", " ".join(its.prototypes))}
-    for it in exports():
+    for it in ("malloc", *(name for name, _ in its_calls)):
         if it not in names:
             raise Stopped(f"the module has no {it}")
     loads = [
@@ -193,7 +198,7 @@ def file_of(module, room, sum_):
             renamed(its.globals),
             f"static void init_memory(Instance *instance) {{\n{''.join(loads)}}}\n",
             text(f"{SOURCES}/shim.c"),
-            *(call(*it) for it in calls()),
+            *(call(*it) for it in its_calls),
             "#endif",
             "",
         ]
@@ -212,7 +217,7 @@ def files(module, room):
     words = {"VERSION": version(), "PARTS": str(PARTS), "OBJECTS": " ".join(f"rp_{it}.o" for it in range(PARTS + 1))}
     put = lambda name: re.sub(r"@(\w+)@", lambda found: words[found[1]], text(f"{SOURCES}/{name}"))
     return {
-        "rp.c": file_of(module, room, sum_),
+        "rp.c": file_of(module, room, sum_, calls()),
         "rp.h": text(HEADER),
         "Makefile": put("Makefile.in"),
         "README.md": put("README.md.in"),
