@@ -13,6 +13,7 @@ RELEASE = r"rp[-_](\d[\d.]*\d)[-_](?:x86_64|amd64|web)"
 VERSIONS = {
     "README.md": RELEASE,
     "docs/USING.md": RELEASE,
+    "page/README.md": RELEASE,
     "clients/python/pyproject.toml": r'^version = "(.*)"$',
     "clients/python/revealed/__init__.py": r'^__version__ = "(.*)"$',
     "clients/r/revealed/DESCRIPTION": r"^Version: (\S+)$",
