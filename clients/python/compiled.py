@@ -14,6 +14,8 @@ from concurrent.futures import ThreadPoolExecutor
 NAME = "rp.dll" if sys.platform == "win32" else "librp.so"
 # What is given after the flags of the system's own Python; other compilers take these alone.
 FLAGS = {"unix": ["-O1", "-g0"], "mingw32": ["-O1", "-g0"]}
+# On x86 of 32 bits doubles are rounded after each operation by these alone.
+SSE = ["-msse2", "-mfpmath=sse"]
 WITHOUT = "--config-settings=library=none installs the package without it, for a program rp or a library that is elsewhere"
 ADVICE = (
     "install one (Debian and Ubuntu: apt install gcc libc6-dev; Fedora: dnf install gcc; a Mac: xcode-select --install; Windows: "
@@ -54,7 +56,7 @@ def compiled(folder):
     parts = int(in_file(f"{folder}/rp.c", r"(?m)^#define RP_PARTS (\d+)$")[0])
     calls = in_file(f"{folder}/rp.h", r"\bint32_t (\w+)\(")
     compiler = compiler_here()
-    flags = FLAGS.get(compiler.compiler_type, [])
+    flags = [*FLAGS.get(compiler.compiler_type, []), *(SSE if re.search(r"linux.i[3-6]86$", sysconfig.get_platform()) else [])]
     with tempfile.TemporaryDirectory(prefix="rp-compiled-") as room:
 
         def part(number):
