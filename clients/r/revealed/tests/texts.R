@@ -63,10 +63,10 @@ for (name in names(calls)) {
   }
 }
 
-# texts as the program itself, by the argument and by the variable
+# texts as the program itself, by the argument and by the variable; where a library answers there is no program to copy
 variable <- Sys.getenv("RP_EXEC", NA)
 program <- rp_program()
-for (text in setdiff(crafted, c("", " ", "../table.csv"))) {
+for (text in if (revealed:::is_library(program)) character() else setdiff(crafted, c("", " ", "../table.csv"))) {
   folder <- file.path(room, gsub("/", "_", text))
   dir.create(folder, showWarnings = FALSE)
   own <- file.path(folder, paste0("rp ", gsub("/", "_", text)))
