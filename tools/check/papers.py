@@ -41,9 +41,10 @@ def of_versions(text):
     cited = (*found(r"^version: (\S+)$", citation), *found(r"^date-released: (\S+)$", citation))
     if cited != heading:
         yield f"CITATION.cff has {' of '.join(cited)}, and CHANGELOG.md {' of '.join(heading)}"
-    manual = found(r'^\.TH RP 1 (\S+) "rp (\S+)"', text("release/rp.1"))[::-1]
-    if manual != heading:
-        yield f"release/rp.1 has {' of '.join(manual)}, and CHANGELOG.md {' of '.join(heading)}"
+    for page, title in (("rp.1", "RP"), ("rp-wide.1", "RP-WIDE")):
+        manual = found(rf'^\.TH {title} 1 (\S+) "rp (\S+)"', text(f"release/{page}"))[::-1]
+        if manual != heading:
+            yield f"release/{page} has {' of '.join(manual)}, and CHANGELOG.md {' of '.join(heading)}"
     for file, pattern in VERSIONS.items():
         versions = set(re.findall(pattern, text(file), re.M))
         if versions != set(heading[:1]):
@@ -64,11 +65,11 @@ def of_release(text):
 
 
 def of_manual(text):
-    """Yields what groff says of the manual page, where it is there."""
-    if shutil.which("groff"):
-        ran = subprocess.run(["groff", "-man", "-ww", "-z"], input=text("release/rp.1"), capture_output=True, text=True)
+    """Yields what groff says of the manual pages, where it is there."""
+    for page in ("rp.1", "rp-wide.1") if shutil.which("groff") else ():
+        ran = subprocess.run(["groff", "-man", "-ww", "-z"], input=text(f"release/{page}"), capture_output=True, text=True)
         if ran.returncode or ran.stderr:
-            yield f"groff says of release/rp.1: {ran.stderr}"
+            yield f"groff says of release/{page}: {ran.stderr}"
 
 
 def of_sources(text):

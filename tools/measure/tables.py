@@ -1,7 +1,9 @@
 """Consistent tables, drawn at random, and calls of the program, for the scripts that measure."""
 import os
+import re
 import subprocess
 import sys
+import tempfile
 
 
 # How often a purchase is drawn for a table before it is given up, and how far apart two levels are held of which the
@@ -117,3 +119,12 @@ def used(program, *words):
     if started.returncode:
         sys.exit(f"{program} {' '.join(words)} ended with status {started.returncode}")
     return own.ru_utime + own.ru_stime, 1024 * own.ru_maxrss
+
+
+def instructions(program, *words):
+    """Returns how many instructions a call takes, as valgrind's callgrind counts them."""
+    with tempfile.NamedTemporaryFile(prefix="rp-callgrind-") as out:
+        counted = ["valgrind", "-q", "--tool=callgrind", f"--callgrind-out-file={out.name}", program, *words]
+        subprocess.run(counted, stdin=subprocess.DEVNULL, stdout=subprocess.DEVNULL, check=True)
+        with open(out.name, encoding="utf-8", errors="replace") as it:
+            return int(re.search(r"(?m)^(?:summary|totals): (\d+)", it.read())[1])

@@ -117,4 +117,4 @@ __all__ = [
     "welfare",
     "welfare_bounds",
 ]
-__version__ = "0.12.0"
+__version__ = "0.13.0"
