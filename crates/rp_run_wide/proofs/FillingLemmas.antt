@@ -1,6 +1,6 @@
 -- Bounds of each asked record as `cost` makes them are as they are given; and what is filled is the same where nothing is
 -- withheld.
-use Rattle.std.proofs.Common.{◌≡◌, ◌∙◌, ◌<◌, ℕ, zero, suc, List, [], ◌∷◌, All, length, slice_index_or, refl, subst, sym, arith}
+use Rattle.std.proofs.Common.{◌≡◌, ◌∙◌, ◌<◌, ℕ, suc, List, [], ◌∷◌, All, length, slice_index_or, refl, subst, sym, arith}
 use Rattle.rp_answers.specs.CostText.{AreBoundsOfEach, AreBoundsUnder}
 use Rattle.rp_cost.specs.AskedOutputs.{AskedOutputs}
 use Rattle.rp_cost.specs.Axioms.{IsCostVerdict, MeetsCost}
