@@ -3,7 +3,9 @@
 #![tactic(auto)]
 
 mod edition;
+mod laws;
 mod running;
 
 pub use edition::Filled;
+pub use laws::nothing_withheld_is_printed_alike;
 pub use running::run_wide;
