@@ -7,6 +7,8 @@ mod fills;
 #[cfg(test)]
 mod rounded;
 #[cfg(test)]
+mod runs;
+#[cfg(test)]
 mod tableaus;
 #[cfg(test)]
 mod words;
