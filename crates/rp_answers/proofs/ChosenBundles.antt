@@ -1,5 +1,5 @@
 -- Choices that a file denotes are full: no bundle in it is empty, since a record in which nothing is bought is refused.
-use Rattle.std.proofs.Common.{◌≡◌, ℕ, ◌+◌, ◌-◌, ◌*◌, ◌<◌, ◌≤◌, Bool, true, false, not, ◌&&◌, ◌||◌, if◌then◌else◌, List, [], ◌++◌, length, slice_index, Option, Some, None, Ok, refl, sym, ap, ◌∙◌, subst, arith}
+use Rattle.std.proofs.Common.{◌≡◌, ℕ, ◌+◌, ◌-◌, ◌*◌, ◌<◌, ◌≤◌, Bool, true, false, not, ◌&&◌, ◌||◌, if◌then◌else◌, [], List, ◌++◌, length, slice_index, Option, Some, None, Ok, refl, sym, ap, ◌∙◌, subst, arith}
 use Rattle.std.specs.Prelude.{codes, unwrap_or}
 use Rattle.std.specs.Option.{option_map_or}
 use Rattle.std.specs.Result.{result_unwrap_or}
@@ -28,7 +28,8 @@ use Rattle.rp_sheet.proofs.FixedHeaders.{good_column}
 use Rattle.rp_sheet.proofs.GoodHeaders.{marked_quantity, quantity_header}
 use Rattle.rp_sheet.proofs.MeasuredRoles.{measured_role}
 use Rattle.rp_sheet.proofs.PlaceLemmas.{found_at, none_below, present}
-use Rattle.rp_sheet.proofs.RowLemmas.{row_number, sum_at_least}
+use Rattle.rp_num.proofs.RowsBelow.{row_number}
+use Rattle.rp_table.proofs.SumsBelow.{sum_at_least}
 use Rattle.rp_sheet.proofs.StagesPassed.{passed}
 use Rattle.rp_text.specs.Denotation.{budgets_in, choice_list, choices_on}
 use Rattle.rp_text.proofs.BudgetFacts.{budgets_there, budgets_within, refused_budgets}

@@ -15,7 +15,7 @@ use Rattle.rp_num.proofs.BelowLemmas.{length-listed, get-listed}
 use Rattle.rp_table.specs.Names.{IsName}
 use Rattle.rp_limits.specs.declared.table.TheConstants.{RECORDS, GOODS}
 use Rattle.rp_table.specs.Tables.{IsTable, records_of, quantity_of}
-use Rattle.rp_sheet.proofs.RowLemmas.{length-rows, row_number, all_rows}
+use Rattle.rp_num.proofs.RowsBelow.{length-rows, row_number, all_rows}
 use Rattle.rp_power.specs.DrawnNumbers.{drawn_numbers, not_all_zero}
 use Rattle.rp_power.proofs.DrawnLemmas.{not_all_zero_sum, not_all_zero_within}
 use Rattle.rp_answers.specs.TrialTable.{trial_price, trial_quantity, record_generator, good_name, trial_of}

@@ -6,6 +6,7 @@ use Rattle.std.specs.Int.RustNames.{unsigned_abs}
 use Rattle.std.specs.Prelude.{◌+ℤ◌, ℤ}
 use lib.Signed.{mag}
 use mir.Val.{of_z, to_z}
+use Rattle.rp_farkas.proofs.SumSteps.{abs_sum}
 use Rattle.rp_evidence.specs.Quasilinear.{step_sum, sum_from, walk_sum}
 
 from_more : (c : ℕ → ℕ → ℕ) (t : ℕ) (rest : List ℕ) (k : ℕ) → k < length rest → sum_from c t (take (suc k) rest) ≡ sum_from c t (take k rest) +ℤ step_sum c (slice_index (t ∷ rest) k) (slice_index (t ∷ rest) (suc k))
@@ -36,6 +37,3 @@ sum_kept c walk k s a r within so_far is small fits_r e fits_a =
     ap (λ x. x +ℤ a) so_far.0 ∙ ap (λ x. walk_sum c (take (k + 1) walk) +ℤ x) is ∙ sym (sum_more c walk k within) in
     let size : unsigned_abs (s +ℤ a) ≤ (k + 1) * 2 ^ 51 = omega (arith, abs_sum s a, so_far.1) in
     subst P (sym back) (next, size)
-  where
-    abs_sum : (x y : ℤ) → unsigned_abs (x +ℤ y) ≤ unsigned_abs x + unsigned_abs y
-    abs_sum x y = omega (arith, ints)

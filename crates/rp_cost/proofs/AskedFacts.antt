@@ -1,5 +1,5 @@
 -- Records without a fault make new prices and outputs within the limits.
-use Rattle.std.proofs.Common.{◌≡◌, ℕ, ◌*◌, ◌<◌, ◌≤◌, inl, List, [], length, slice_index, None, refl, sym, ap, ◌∙◌, subst}
+use Rattle.std.proofs.Common.{◌≡◌, ℕ, ◌*◌, ◌<◌, ◌≤◌, inl, [], List, length, slice_index, None, refl, sym, ap, ◌∙◌, subst}
 use Rattle.std.specs.List.{All}
 use Rattle.std.specs.Prelude.{codes}
 use Rattle.std.proofs.lemmas.List.Elements.{All-nil}
@@ -16,7 +16,7 @@ use Rattle.rp_sheet.specs.SheetFiles.{IsReadFrom}
 use Rattle.rp_sheet.specs.Sheets.{column_numbers, column_of, numbers_under}
 use Rattle.rp_forms.specs.Texts.{text_at}
 use Rattle.rp_sheet.proofs.FileLemmas.{of_read, read_as, scaled_numbers}
-use Rattle.rp_sheet.proofs.RowLemmas.{each_row}
+use Rattle.rp_num.proofs.RowsBelow.{each_row}
 use Rattle.rp_sheet.specs.Sizes.{sizes_stage}
 use Rattle.rp_forms.specs.declared.form.Marks.TheVariants.{Inputs}
 use Rattle.rp_sheet.proofs.ColumnSizes.{sizes_are, sizes_in}

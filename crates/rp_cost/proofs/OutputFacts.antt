@@ -21,7 +21,7 @@ use Rattle.rp_sheet.proofs.FieldFaults.{role_is}
 use Rattle.rp_sheet.proofs.FigureLemmas.{figure_there, good_record, some_units}
 use Rattle.rp_sheet.proofs.FineHeaders.{column_there}
 use Rattle.rp_sheet.proofs.PlaceLemmas.{fine, none_below}
-use Rattle.rp_sheet.proofs.RowLemmas.{all_listed}
+use Rattle.rp_num.proofs.RowsBelow.{all_listed}
 use Rattle.std.specs.Result.{result_err}
 
 output_says : (marks : Marks) → role_of marks (codes "y") ≡ Some Output

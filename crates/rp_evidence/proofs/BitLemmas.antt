@@ -26,7 +26,7 @@ pub bit_of_or : (x y i : ℕ) → eqb (bit_at (bit_or x y) i) 1 ≡ (eqb (bit_at
 bit_of_or x y i = ap (λ b. eqb b 1) (bit_at_or x y i) ∙ max_one (bit_at x i) (bit_at y i) (bit_below x i) (bit_below y i)
 
 -- The word with this bit alone.
-alone : (j : ℕ) → j < 64 → 1 * 2 ^ j % 18446744073709551616 ≡ 2 ^ j
+pub alone : (j : ℕ) → j < 64 → 1 * 2 ^ j % 18446744073709551616 ≡ 2 ^ j
 alone j l = let same : 1 * 2 ^ j ≡ 2 ^ j = omega arith in shl_exact {a = 1} 1 j 64 (omega arith) (omega arith) ∙ same
 
 module _ (words : List ℕ) (t w : ℕ) (within : t / 64 < length words) (is : w ≡ get_or words (t / 64) 0) where

@@ -152,6 +152,17 @@ module _ (input : TableInput) (budget : BudgetInput) (below : List ℕ) (right :
 
 -- ---- the bounds
 
+-- a supporting demand is such prices
+module _ (input : TableInput) (budget : BudgetInput) (below : List ℕ) (lists : ListsBelow input budget below) where
+  pub supporting_priced : (right : ℕ → ℤ) (w : FractionBundle) → IsSupportingDemand input budget w → IsPriced input budget below right w.den w.num
+  supporting_priced right w s = record {
+    some = s.on_budget.fraction;
+    spent = s.on_budget.spent;
+    enough = λ j l.
+        let there = (lists.just_these (slice_index below j)).0 (j, l, get_or_default below j (slice_index below j) 0 l) in
+        enough_where_kept input budget w s (slice_index below j) there.0 there.1;
+  }
+
 module _ (input : TableInput) (budget : BudgetInput) (below : List ℕ) (lists : ListsBelow input budget below) (sound : MeetsGarp input.n input.cost)
     (inner : FractionBundle) (kept : IsSupportingDemand input budget inner) where
   module _ (right : ℕ → ℤ) (den : ℕ) (x : ℕ → ℕ) (p : IsPriced input budget below right den x) where
@@ -167,15 +178,6 @@ module _ (input : TableInput) (budget : BudgetInput) (below : List ℕ) (lists :
     -- every mixture with the inner demand supports
     pub mixtures : (k : ℕ) → 0 < k → IsSupportingDemand input budget (mixed k (record { den = den; num = x }) inner)
     mixtures k some = mixture_supports input budget (record { den = den; num = x }) inner k some sound priced_on_budget priced_costs_enough kept
-
-  supporting_priced : (right : ℕ → ℤ) (w : FractionBundle) → IsSupportingDemand input budget w → IsPriced input budget below right w.den w.num
-  supporting_priced right w s = record {
-    some = s.on_budget.fraction;
-    spent = s.on_budget.spent;
-    enough = λ j l.
-        let there = (lists.just_these (slice_index below j)).0 (j, l, get_or_default below j (slice_index below j) 0 l) in
-        enough_where_kept input budget w s (slice_index below j) there.0 there.1;
-  }
 
   -- the mixture with little enough of the inner demand has less, or more, than a fraction that the bundle has less, or more, than
   mixed_less : (d x z e num den : ℕ) → 0 < d → 0 < e → x * den < num * d → (((d * z * den + 1) - 1) * (e * x) + d * z) * den < num * ((d * z * den + 1) * (d * e))
@@ -209,7 +211,7 @@ module _ (input : TableInput) (budget : BudgetInput) (below : List ℕ) (lists :
     lower_is_infimum pair = record {
       fraction = p.some;
       none_less = λ w s less.
-          let lowest = best.no_lower w.den w.num (prices_feasible input budget below _ w.den w.num (supporting_priced _ w s)) in
+          let lowest = best.no_lower w.den w.num (prices_feasible input budget below _ w.den w.num (supporting_priced input budget below lists _ w s)) in
           let h = rw (lower_cost x, lower_cost w.num) at lowest in
           omega (arith, ints, h, less);
       approached = λ num' den' some greater. (
@@ -255,7 +257,7 @@ module _ (input : TableInput) (budget : BudgetInput) (below : List ℕ) (lists :
     upper_is_supremum some_price pair = record {
       fraction = p.some;
       none_more = λ w s more.
-          let lowest = best.no_lower w.den w.num (prices_feasible input budget below _ w.den w.num (supporting_priced _ w s)) in
+          let lowest = best.no_lower w.den w.num (prices_feasible input budget below _ w.den w.num (supporting_priced input budget below lists _ w s)) in
           let e = upper_cost x ∙ ap pos p.spent in
           let e' = upper_cost w.num ∙ ap pos s.on_budget.spent in
           let h = more_for_it _ _ (budget.prices g) (x g) (w.num g) budget.expenditure den w.den e e' lowest in

@@ -19,7 +19,7 @@ use Rattle.rp_farkas.proofs.Listings.{ListedFrom-length, listed_from, total-list
 abbrev pub product_bound : ℕ
 product_bound = largest_entry * (2 ^ 63 - 1)
 
-abs_sum : (s t : ℤ) → unsigned_abs (s +ℤ t) ≤ unsigned_abs s + unsigned_abs t
+pub abs_sum : (s t : ℤ) → unsigned_abs (s +ℤ t) ≤ unsigned_abs s + unsigned_abs t
 abs_sum s t = omega (arith, ints)
 
 -- the running sum s of k products, and one more

@@ -1,6 +1,7 @@
 -- Members of an object that are compared with names one after another.
-use Rattle.std.proofs.Common.{◌≡◌, ◌≢◌, ℕ, zero, suc, ◌+◌, ◌<◌, ◌≤◌, List, [], ◌∷◌, ◌++◌, take, length, length-append, get_or, Bor, Bool, true, false, not, ◌&&◌, eqb, eqb-true, eq-eqb, true≢false, Option, Some, None, Result, Ok, Err, IfOk, refl, sym, ap, ◌∙◌, arith}
+use Rattle.std.proofs.Common.{◌≡◌, ◌≢◌, ℕ, zero, suc, ◌+◌, ◌<◌, ◌≤◌, List, [], ◌∷◌, ◌++◌, take, length, length-append, get_or, Bor, Bool, true, false, not, eqb, eqb-true, eq-eqb, true≢false, Option, Some, None, Result, Ok, Err, IfOk, refl, sym, ap, ◌∙◌, arith}
 use Rattle.std.proofs.lemmas.List.{take_more}
+use Rattle.std.proofs.lemmas.Bool.{and_parts}
 use Rattle.std.specs.Cmp.Lexicographic.{pointwise}
 use Rattle.serde_json.specs.Data.{Data, Members, member, no_members, null, boolean, number, string, array, object}
 use Rattle.serde_json.specs.Find.{as_array, as_object}
@@ -100,17 +101,12 @@ text_at [] k d h = absurd (omega arith)
 text_at (n ∷ names) zero d h = refl
 text_at (n ∷ names) (suc k) d h = text_at names k d (omega arith)
 
-both : (p q : Bool) → (p && q) ≡ true → (p ≡ true) × (q ≡ true)
-both true true e = (refl, refl)
-both true false e = absurd cc
-both false q e = absurd cc
-
 pub same_bytes : (a b : List ℕ) → pointwise eqb a b ≡ true → a ≡ b
 same_bytes [] [] e = refl
 same_bytes [] (y ∷ b) e = absurd cc
 same_bytes (x ∷ a) [] e = absurd cc
 same_bytes (x ∷ a) (y ∷ b) e =
-    let two = both (eqb x y) (pointwise eqb a b) e in
+    let two = and_parts (eqb x y) (pointwise eqb a b) e in
     let here = eqb-true x y two.0 in
     let rest = same_bytes a b two.1 in
     λ i. here i ∷ rest i

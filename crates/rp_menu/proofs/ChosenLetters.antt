@@ -4,6 +4,7 @@ use Rattle.std.specs.Int.{bit_at}
 use Rattle.std.proofs.lemmas.Bool.Decides.{nat_tests}
 use Rattle.std.proofs.lemmas.List.Folds.{list_any_at}
 use Rattle.std.proofs.lemmas.Nat.Bits.{bit_at-zero}
+use Rattle.std.proofs.lemmas.Bool.{and_parts}
 use Rattle.rp_num.specs.Below.{any_below}
 use Rattle.rp_num.proofs.BelowLemmas.{one_holds}
 use Rattle.rp_menu.specs.MenuLists.{has_letter}
@@ -19,18 +20,13 @@ right_letter : (a b : Bool) → (not a || b) ≡ false → a ≡ true
 right_letter true b e = refl
 right_letter false b e = cc e
 
-both : (a b : Bool) → (a && b) ≡ true → (a ≡ true) × (b ≡ true)
-both true true e = (refl, refl)
-both true false e = cc e
-both false b e = cc e
-
 one_of : (a : Bool) → a ≢ true → a ≡ false
 one_of true e = absurd (e refl)
 one_of false e = refl
 
 in_range : (byte : ℕ) → is_letter byte ≡ true → (97 ≤ byte) × (byte < 103)
 in_range byte is =
-    let tests = both (nat_le 97 byte) (nat_lt byte 103) is in
+    let tests = and_parts (nat_le 97 byte) (nat_lt byte 103) is in
     let low = tests.0 in
     let high = tests.1 in
     (grind (arith, nat_tests), grind (arith, nat_tests))
@@ -82,5 +78,5 @@ module _ (text : List ℕ) (is : is_menu text ≡ true) where
 
   pub menu_has : (choice : List ℕ) → is_choice text choice ≡ true → has_letter (number_of_menu text) (letter_in choice) ≡ true
   menu_has choice chosen =
-      let tests = both (length choice == 1) (has_byte text (slice_index choice 0)) chosen in
+      let tests = and_parts (length choice == 1) (has_byte text (slice_index choice 0)) chosen in
       ap (λ n. n == 1) (letter_of (slice_index choice 0) tests.1)

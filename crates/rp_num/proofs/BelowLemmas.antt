@@ -47,6 +47,11 @@ pub any_same : (f h : ℕ → Bool) (n : ℕ) → ((k : ℕ) → k < n → f k �
 any_same f h zero same = refl
 any_same f h (suc n) same = rw (any_same f h n (λ k below. same k (omega arith)), same n (omega arith)) refl
 
+-- lists of the same numbers
+pub listed-same : (f h : ℕ → ℕ) (n : ℕ) → ((k : ℕ) → k < n → f k ≡ h k) → listed n f ≡ listed n h
+listed-same f h zero same = refl
+listed-same f h (suc n) same = rw (listed-same f h n (λ k below. same k (omega arith)), same n (omega arith)) refl
+
 -- one more of a list
 pub listed-more : {A : Type 0} (f : ℕ → A) (n : ℕ) (x : A) (xs : List A) → xs ≡ listed n f → x ≡ f n → xs ++ x ∷ [] ≡ listed (n + 1) f
 listed-more f n x xs before here = rw (add-one, before, here) refl

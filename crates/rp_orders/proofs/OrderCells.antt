@@ -1,12 +1,13 @@
 -- The cells that orders pick: one of each menu, where an order picks a cell from every menu.
-use Rattle.std.proofs.Common.{◌≡◌, ◌≢◌, ◌<◌, ◌≤◌, ◌^◌, ◌==◌, ◌&&◌, inl, inr, ℕ, zero, suc, pos, Bool, true, false, List, [], length, slice_index, slice_index_or, refl, sym, ap, subst, ◌∙◌, arith, if◌then◌else◌}
-use Rattle.std.proofs.lemmas.Bool.{cases_eq, cases_lt, eq-eqb, eqb-true, ne_eqb}
+use Rattle.std.proofs.Common.{◌≡◌, ◌≢◌, ◌<◌, ◌≤◌, ◌^◌, ◌==◌, ◌&&◌, inl, inr, ℕ, zero, suc, pos, Bool, true, false, [], List, length, slice_index, slice_index_or, refl, sym, ap, subst, ◌∙◌, arith, if◌then◌else◌}
+use Rattle.std.proofs.lemmas.Bool.{cases_eq, cases_lt, eq-eqb, eqb-true, ne_eqb, and_parts}
 use Rattle.std.proofs.lemmas.Int.{ints}
 use Rattle.std.proofs.Math.Nat.{pow-le-pow_right}
 use Rattle.std.specs.Int.RustNames.{unsigned_abs}
 use Rattle.rp_farkas.specs.Limits.{IsWithinLimits, largest_entry, most_columns}
 use Rattle.rp_num.proofs.BelowLemmas.{get-listed, length-listed}
 use Rattle.rp_table.specs.Sums.{sum_below}
+use Rattle.rp_table.proofs.SumsBelow.{sum_none}
 use Rattle.rp_menu.specs.MenuLists.{IsMenuList, MenuList}
 use Rattle.rp_orders.specs.OrderKinds.{PicksCells, cell_of, cells_picked, orders_over}
 use Rattle.rp_orders.specs.OrderMixtures.{AreUnitsOf, menu_at, units_of}
@@ -15,12 +16,7 @@ use Rattle.rp_orders.proofs.OrderLists.{first_passes, some_with}
 use Rattle.rp_patch.specs.Kinds.{AreWhole, UsesOneOfEach, mixture_program, uses}
 use Rattle.rp_patch.specs.declared.apportionment.Units.{Units}
 use Rattle.rp_patch.proofs.GroupFacts.{group_within}
-use Rattle.rp_patch.proofs.KindWeights.{sum_none, uses_none, uses_some}
-
-both : (a b : Bool) → (a && b) ≡ true → (a ≡ true) × (b ≡ true)
-both true true h = (refl, refl)
-both true false h = absurd cc
-both false b h = absurd cc
+use Rattle.rp_patch.proofs.KindWeights.{uses_none, uses_some}
 
 -- one term alone among the first
 pub sum_alone : (f : ℕ → ℕ) (n h : ℕ) → h < n → ((i : ℕ) → i < n → i ≢ h → f i ≡ 0) → sum_below n f ≡ f h
@@ -69,7 +65,7 @@ module _ (list : MenuList) (is : IsMenuList list) where
   -- where a letter has a cell, that is on its menu and has that letter
   pub on_cell : (i x : ℕ) → cell_of list i x < cells → (group (cell_of list i x) ≡ i) × (letter (cell_of list i x) ≡ x)
   on_cell i x l =
-      let h = both (group (cell_of list i x) == i) (letter (cell_of list i x) == x) (first_passes cells (test i x) l) in
+      let h = and_parts (group (cell_of list i x) == i) (letter (cell_of list i x) == x) (first_passes cells (test i x) l) in
       (eqb-true (group (cell_of list i x)) i h.0, eqb-true (letter (cell_of list i x)) x h.1)
 
   -- a cell is the one of its menu and its letter
@@ -133,7 +129,7 @@ module _ (list : MenuList) (is : IsMenuList list) where
         where
           off : (d : ℕ) (b : Bool) → test (group c) (letter c) d ≡ b → d < cells → d ≢ c → (if b then slice_index units.units d else 0) ≡ 0
           off d true on d_in other =
-              let h = both (group d == group c) (letter d == letter c) on in
+              let h = and_parts (group d == group c) (letter d == letter c) on in
               let first = eqb-true (group d) (group c) h.0 in
               let second = eqb-true (letter d) (letter c) h.1 in
               absurd (other (sym (its_cell d d_in) ∙ (λ z. cell_of list (first z) (second z)) ∙ its_cell c l))

@@ -16,7 +16,7 @@ use Rattle.rp_orders.specs.OrderKinds.{first_with}
 use Rattle.rp_orders.specs.Orders.{IsStrictOrder}
 use Rattle.rp_patch.specs.PartialTypes.{Before}
 use Rattle.rp_patch.proofs.SearchLaws.{before_less}
-use Rattle.rp_walk.proofs.Repeats.{Repeats, repeats}
+use Rattle.rp_num.proofs.Repeats.{Repeats, repeats}
 
 -- ---- the first number with a test
 

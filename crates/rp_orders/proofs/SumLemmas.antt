@@ -8,7 +8,9 @@ use Rattle.std.proofs.lemmas.Int.{ints, to_z-of_z}
 use Rattle.std.proofs.Math.Nat.{pow-le-pow_right}
 use Rattle.rp_farkas.specs.Total.{total}
 use Rattle.rp_farkas.proofs.Totals.{total-suc}
+use Rattle.rp_farkas.proofs.SumSteps.{abs_sum}
 use Rattle.rp_table.specs.Sums.{sum_below}
+use Rattle.rp_table.proofs.SumsBelow.{sum_none}
 use Rattle.rp_menu.specs.MenuLists.{IsMenuList, MenuList}
 use Rattle.rp_orders.specs.MenuSums.{IsSeen}
 use Rattle.rp_orders.specs.OrderKinds.{cell_of, first_with}
@@ -16,7 +18,6 @@ use Rattle.rp_orders.specs.OrderMixtures.{AreUnitsOf, menu_at, units_of}
 use Rattle.rp_orders.proofs.OrderCells.{group_below, no_units, on_cell, sum_alone, units_of_cell}
 use Rattle.rp_orders.proofs.OrderLists.{first_passes, some_with}
 use Rattle.rp_patch.specs.declared.apportionment.Units.{Units}
-use Rattle.rp_patch.proofs.KindWeights.{sum_none}
 
 module _ (list : MenuList) (is : IsMenuList list) (units : Units) (are : AreUnitsOf list units) where
   abbrev count : ℕ
@@ -97,9 +98,6 @@ module _ (list : MenuList) (menu place : ℕ) (first : place ≡ first_with (len
       omega (arith, least, first, g, seen.1)
 
 -- a turn of the loop over menus
-abs_sum : (s t : ℤ) → unsigned_abs (s +ℤ t) ≤ unsigned_abs s + unsigned_abs t
-abs_sum s t = omega (arith, ints)
-
 sum_more : (f : ℕ → ℤ) (i : ℕ) (s z : ℤ) → (s ≡ total i f) × (unsigned_abs s ≤ i * 1000000000) → z ≡ f i → unsigned_abs z ≤ 1000000000
     → (s +ℤ z ≡ total (i + 1) f) × (unsigned_abs (s +ℤ z) ≤ (i + 1) * 1000000000)
 sum_more f i s z so_far is small = (

@@ -4,7 +4,7 @@ use Rattle.std.proofs.lemmas.Bool.{cases_eq, eq-eqb, ne_eqb}
 use Rattle.std.proofs.lemmas.List.Sums.{sum_by-cons}
 use Rattle.rp_evidence.specs.declared.random.Share.{Share}
 use Rattle.rp_table.specs.Sums.{sum_below}
-use Rattle.rp_table.proofs.SumsBelow.{sum_below-mono, sum_below-same}
+use Rattle.rp_table.proofs.SumsBelow.{sum_below-mono, sum_below-same, sum_none}
 use Rattle.rp_patch.specs.Kinds.{AreWhole, HasMixtureOf, IsGreatestMixtureOf, IsMixtureOf, IsPartialMixtureOf, Kinds, UsesOneOfEach, all_units_weight, cells_weight, uses, weight_of, weight_using}
 use Rattle.rp_patch.proofs.ChosenLaws.{sum_first}
 
@@ -17,10 +17,6 @@ sum_added f g (suc n) = omega (arith, sum_added f g n)
 pub sum_scaled : (f : ℕ → ℕ) (k n : ℕ) → sum_below n (λ i. f i * k) ≡ sum_below n f * k
 sum_scaled f k zero = omega arith
 sum_scaled f k (suc n) = omega (arith, sum_scaled f k n)
-
-pub sum_none : (f : ℕ → ℕ) (n : ℕ) → ((i : ℕ) → i < n → f i ≡ 0) → sum_below n f ≡ 0
-sum_none f zero none = refl
-sum_none f (suc n) none = omega (arith, sum_none f n (λ i l. none i (omega (arith, l))), none n (omega arith))
 
 -- one term alone
 pub sum_one : (f : ℕ → ℕ) (n k : ℕ) → k < n → ((i : ℕ) → i ≢ k → f i ≡ 0) → sum_below n f ≡ f k

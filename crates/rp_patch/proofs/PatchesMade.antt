@@ -1,10 +1,9 @@
 -- What was chosen and its units make patches within the limits.
-use Rattle.std.proofs.Common.{◌≡◌, ℕ, zero, suc, ◌<◌, ◌≤◌, ◌==◌, ◌⊎◌, inl, inr, ℤ, List, length, Option, Result, Ok, Err, slice_index, refl, sym, ap, subst, ◌∙◌, arith, if◌then◌else◌}
-use Rattle.std.specs.Result.{IfErr, IsErr, IsErrAnd}
+use Rattle.std.proofs.Common.{◌≡◌, ℕ, zero, suc, ◌<◌, ◌≤◌, ◌==◌, ◌⊎◌, inl, inr, ℤ, List, length, Option, slice_index, refl, sym, ap, subst, ◌∙◌, arith, if◌then◌else◌}
 use Rattle.std.proofs.lemmas.Bool.{eq-eqb}
 use Rattle.std.proofs.lemmas.List.{get_or_past}
 use Rattle.rp_table.specs.Sums.{sum_below}
-use Rattle.rp_table.proofs.SumsBelow.{sum_below-same}
+use Rattle.rp_table.proofs.SumsBelow.{sum_at_least, sum_below-same}
 use Rattle.rp_patch.specs.Apportionment.{AreFilled, HasShares}
 use Rattle.rp_patch.specs.Choices.{RandomInput}
 use Rattle.rp_patch.specs.InnerUnited.{AreUnited, SaysWhyNotShared}
@@ -16,7 +15,6 @@ use Rattle.rp_patch.specs.declared.fault.PatchFault.TheVariants.{TooManyPatches,
 use Rattle.rp_patch.specs.declared.chosen.Chosen.{Chosen}
 use Rattle.rp_patch.specs.declared.patch_list.Patch.{Patch}
 use Rattle.rp_patch.proofs.ChosenLaws.{chosen_budget, chosen_rising, chosen_signs}
-use Rattle.rp_patch.proofs.Sums.{sum_at_least}
 
 module _ (input : RandomInput) (total : ℕ) (units : List ℕ) (each : length units ≡ length (all_chosen input))
     (p : PatchList) (budgets_is : p.budgets ≡ input.budgets) (total_is : p.total ≡ total) (united : AreUnited (all_chosen input) units (length (all_chosen input)) p.patches) where
@@ -100,8 +98,3 @@ pub refused_units : (input : RandomInput) (asked : Option ℕ) (f : PatchFault) 
 refused_units input asked (TooManyPatches j) few why = absurd why
 refused_units input asked (NeedUnit j) few why = (few, why.0, why.1)
 refused_units input asked NoMemory few why = why
-
--- a fault that `?` passes on
-pub passed_on : {A E : Type 0} (r : Result A E) (e : E) (P : E → Type 0) → IsErr r × IsErrAnd r (λ x. x ≡ e) → P e → IfErr r P
-passed_on (Ok x) e P h p = tt
-passed_on (Err x) e P h p = subst P (sym h.1) p

@@ -1,9 +1,10 @@
 -- Laws of sets of budgets as words.
-use Rattle.std.proofs.Common.{◌≡◌, ◌<◌, ◌⊎◌, ◌*◌, ◌%◌, ◌^◌, ℕ, inl, inr, sym, ap, ◌∙◌, arith, bit_and, bit_or, min, max, shl_exact}
+use Rattle.std.proofs.Common.{◌≡◌, ◌<◌, ◌⊎◌, ◌*◌, ◌%◌, ◌^◌, ℕ, inl, inr, sym, ap, ◌∙◌, arith, bit_and, bit_or, min, max}
 use Rattle.std.specs.Int.{bit_at}
 use Rattle.std.proofs.Common.{w64}
 use Rattle.std.proofs.lemmas.Bool.{cases_eq}
 use Rattle.std.proofs.lemmas.Nat.Bits.{bit_at_or, bit_at_and, bit_at-lt, bit_at-pow_same, bit_at-pow_other, bit_at-trailing_zeros, bit_at-zero}
+use Rattle.rp_evidence.proofs.BitLemmas.{alone}
 use Rattle.rp_patch.specs.Sets.{Has}
 
 one_of_two : (a b : ℕ) → a < 2 → b < 2 → max a b ≡ 1 → (a ≡ 1) ⊎ (b ≡ 1)
@@ -18,9 +19,6 @@ in_union x y k = (
     | inr e ↦ omega (arith, e, bit_at-lt x k)
   ],
 )
-
-alone : (j : ℕ) → j < 64 → 1 * 2 ^ j % 18446744073709551616 ≡ 2 ^ j
-alone j l = let same : 1 * 2 ^ j ≡ 2 ^ j = omega arith in shl_exact {a = 1} 1 j 64 (omega arith) (omega arith) ∙ same
 
 -- what is in a set of one
 in_one : (j k : ℕ) → j < 64 → (Has (1 * 2 ^ j % 18446744073709551616) k → k ≡ j) × (k ≡ j → Has (1 * 2 ^ j % 18446744073709551616) k)

@@ -6,13 +6,12 @@ use Rattle.std.proofs.lemmas.List.{get_or_past}
 use Rattle.std.proofs.lemmas.Nat.Gcd.{mod-eq-zero_of_dvd}
 use Rattle.std.proofs.Math.Nat.{dvd-mul_left, dvd_trans}
 use Rattle.rp_table.specs.Sums.{sum_below}
-use Rattle.rp_table.proofs.SumsBelow.{sum_below-same}
+use Rattle.rp_table.proofs.SumsBelow.{sum_at_least, sum_below-same}
 use Rattle.rp_patch.specs.Apportionment.{AreFilled, RestComesBefore, GroupedCounts, HasApportionedShares, HasShares, counts_in, rest_of, whole_of}
 use Rattle.rp_patch.specs.InnerPortions.{ArePortions, AreRoundedUpBelow, ArePortionUnits, AreWholeParts, IsAhead, IsSharedTotal, portion_at, portions_on, rounded_up_on, portion_units, whole_on}
 use Rattle.rp_patch.specs.declared.portion.Portion.{Portion}
 use Rattle.rp_patch.proofs.RoundedUpGroups.{same_whole}
 use Rattle.rp_patch.proofs.Shares.{cancelled, sum_plus, sum_scaled_at_most}
-use Rattle.rp_patch.proofs.Sums.{sum_at_least}
 
 same_from : (a b : ℕ) → (a == b) ≡ true → a ≡ b
 same_from a b e = elim (cases_eq a b) [ inl is ↦ is | inr d ↦ absurd (false≢true (sym (ne_eqb a b d) ∙ e)) ]

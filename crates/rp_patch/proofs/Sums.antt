@@ -1,12 +1,7 @@
 -- Laws of sums over the numbers below a bound.
-use Rattle.std.proofs.Common.{◌≡◌, ℕ, zero, suc, ◌+◌, ◌<◌, ◌≤◌, ◌==◌, if◌then◌else◌, arith, below_more, rules}
+use Rattle.std.proofs.Common.{◌≡◌, ℕ, ◌<◌, ◌==◌, if◌then◌else◌, arith, rules}
 use Rattle.rp_table.specs.Sums.{sum_below}
-
--- a sum is at least each of its terms
-pub sum_at_least : (f : ℕ → ℕ) (n k : ℕ) → k < n → f k ≤ sum_below n f
-sum_at_least f zero k within = absurd (omega arith)
-sum_at_least f (suc n) k within =
-    below_more (λ (i : ℕ). f i ≤ sum_below n f + f n) n (λ i below. omega (arith, sum_at_least f n i below)) (omega arith) k (omega arith)
+use Rattle.rp_table.proofs.SumsBelow.{sum_at_least}
 
 -- the times of a budget on which something was chosen
 same_test : (j t : ℕ) → (if j == j then t else 0) ≡ t

@@ -6,6 +6,7 @@ use Rattle.std.specs.Cmp.Rules.{signed_items}
 use Rattle.std.specs.Ordering.{int_eq}
 use Rattle.std.proofs.lemmas.Bool.{cases_eq, cases_lt, false≢true}
 use Rattle.rp_table.specs.Sums.{sum_below}
+use Rattle.rp_table.proofs.SumsBelow.{sum_none}
 use Rattle.rp_patch.specs.Units.{counted, tally_by}
 
 abbrev pub signs_at : List (List ℤ × ℕ) → ℕ → List ℤ
@@ -129,10 +130,6 @@ pub record IsTally (signs : ℕ → List ℤ) (counts : ℕ → Bool) (times : �
   pub in_order : (h k c d : ℕ) → h < k → k < length entries
       → IsFirstOf signs counts n (signs_at entries h) c → IsFirstOf signs counts n (signs_at entries k) d → c < d
   pub together : (k : ℕ) → k < length entries → times_at entries k ≡ sum_alike signs counts times n (signs_at entries k)
-
-sum_none : (f : ℕ → ℕ) (n : ℕ) → ((i : ℕ) → i < n → f i ≡ 0) → sum_below n f ≡ 0
-sum_none f zero none = refl
-sum_none f (suc n) none = omega (arith, sum_none f n (λ i l. none i (omega (arith, l))), none n (omega arith))
 
 module _ (signs : ℕ → List ℤ) (counts : ℕ → Bool) (times : ℕ → ℕ) where
   abbrev term : List ℤ → ℕ → ℕ

@@ -1,22 +1,17 @@
 -- Numbers that are not all 0, and that a drawn table is a table.
-use Rattle.std.proofs.Common.{◌≡◌, ◌≢◌, ℕ, zero, suc, ◌+◌, ◌*◌, ◌/◌, ◌%◌, ◌<◌, ◌≤◌, ◌==◌, ◌&&◌, Bool, true, false, inl, List, [], ◌++◌, length, get_or, set, refl, sym, ap, ◌∙◌, subst, arith, lit≤, add-one, if◌then◌else◌}
+use Rattle.std.proofs.Common.{◌≡◌, ◌≢◌, ℕ, zero, suc, ◌+◌, ◌*◌, ◌/◌, ◌%◌, ◌<◌, ◌≤◌, ◌==◌, ◌&&◌, Bool, true, false, inl, [], List, ◌++◌, length, get_or, set, refl, sym, ap, ◌∙◌, subst, arith, lit≤, add-one, if◌then◌else◌}
 use Rattle.std.specs.List.{All}
 use Rattle.std.proofs.lemmas.Nat.{div-add-mod', div_below, mod_below}
 use Rattle.std.proofs.Math.Dec.{eqb-suc-zero}
 use Rattle.std.proofs.lemmas.List.{ext_get_or, length-set, get_or-set_same, get_or-set_other}
 use Rattle.rp_num.specs.Below.{listed, rows_below}
-use Rattle.rp_num.proofs.BelowLemmas.{length-listed, get-listed}
-use Rattle.rp_sheet.proofs.RowLemmas.{length-rows, row_number, all_rows, all_listed, sum_at_least}
+use Rattle.rp_num.proofs.BelowLemmas.{length-listed, listed-same, get-listed}
+use Rattle.rp_num.proofs.RowsBelow.{length-rows, row_number, all_rows, all_listed}
+use Rattle.rp_table.proofs.SumsBelow.{sum_at_least, sum_below-same}
 use Rattle.rp_table.specs.Sums.{sum_below}
 use Rattle.rp_table.specs.Tables.{Observations, IsTable, goods_of, records_of, quantity_of}
-use Rattle.rp_table.proofs.SumsBelow.{sum_below-same}
 use Rattle.rp_power.specs.DrawnNumbers.{not_all_zero}
 use Rattle.rp_power.specs.DrawnTable.{bought_of, drawn_quantity, drawn_table, budget_share_of}
-
--- lists of the same numbers
-pub listed-same : (f h : ℕ → ℕ) (n : ℕ) → ((k : ℕ) → k < n → f k ≡ h k) → listed n f ≡ listed n h
-listed-same f h zero same = refl
-listed-same f h (suc n) same = rw (listed-same f h n (λ k below. same k (omega arith)), same n (omega arith)) refl
 
 -- a list is that of its numbers
 pub listed-self : (xs : List ℕ) → xs ≡ listed (length xs) (λ k. get_or xs k 0)

@@ -8,7 +8,7 @@ use Rattle.rp_evidence.proofs.SameCosts.{agree_back, violation_same}
 use Rattle.rp_evidence.specs.Garp.{HasSomeViolation}
 use Rattle.rp_num.specs.Below.{listed, rows_below}
 use Rattle.rp_num.proofs.BelowLemmas.{listed-more}
-use Rattle.rp_sheet.proofs.RowLemmas.{length-rows, row_number}
+use Rattle.rp_num.proofs.RowsBelow.{length-rows, row_number}
 use Rattle.rp_table.specs.Cost.{cost_of}
 use Rattle.rp_table.specs.Limits.{IsQuantity}
 use Rattle.rp_table.specs.Tables.{IsTable, Observations, goods_of, records_of}

@@ -1,6 +1,7 @@
 -- The scaled numbers in a column of a file of any kind that has no fault.
 use Rattle.std.proofs.Common.{◌≡◌, ℕ, ◌-◌, ◌*◌, ◌^◌, ◌<◌, ◌≤◌, Bool, true, false, not, ◌&&◌, nat_lt, List, length, slice_index, Some, None, refl, ap, ◌∙◌, arith}
 use Rattle.std.proofs.lemmas.Bool.Decides.{nat_tests}
+use Rattle.std.proofs.lemmas.Bool.{and_parts}
 use Rattle.rp_num.specs.Below.{any_below}
 use Rattle.rp_forms.specs.Texts.{text_at}
 use Rattle.rp_forms.specs.Columns.{role_of, role_at, measures}
@@ -11,7 +12,6 @@ use Rattle.rp_forms.specs.declared.form.Form.{Form}
 use Rattle.rp_forms.specs.declared.form.Role.{Role}
 use Rattle.rp_forms.specs.declared.form.Role.TheVariants.{Price, Budget, OwnLevel}
 use Rattle.rp_num.proofs.BelowLemmas.{length-listed, one_holds}
-use Rattle.rp_sheet.proofs.NameLemmas.{and_both}
 use Rattle.rp_sheet.proofs.PlaceLemmas.{one_below}
 use Rattle.rp_sheet.proofs.FieldFaults.{role_is}
 use Rattle.rp_sheet.proofs.FigureLemmas.{figure_there, rows_are, good_record, price_units, budget_units, level_units, good_size, some_size, size_listed}
@@ -83,7 +83,7 @@ module _ (form : Form) (headers : List (List ℕ)) (records : List (List (List �
       let says : any_below (length headers) (λ k. measures (role_at form.marks headers k)) ≡ true = one_holds (λ k. measures (role_at form.marks headers k)) c (length headers) column measured in
       let bought = bought_test _ _ (good_record form headers records t row fine_fields).1 says in
       let found = one_below (λ k. measures (role_at form.marks headers k) && nat_lt 0 (figure form headers records t k).units) (length headers) bought in
-      let both = and_both (measures (role_at form.marks headers found.0)) _ found.2 in
+      let both = and_parts (measures (role_at form.marks headers found.0)) _ found.2 in
       let some = over_zero (figure form headers records t found.0).units both.1 in
       let units : 1 ≤ (figure_at (figures_of form headers records) t found.0).units = rw (figure_there form headers records t found.0 row found.1) some in
       (found.0, found.1, both.0, some_at t found.0 row found.1 units)

@@ -24,7 +24,7 @@ use Rattle.rp_sheet.specs.declared.fault.TableFault.{TableFault}
 use Rattle.rp_num.proofs.BelowLemmas.{one_holds}
 use Rattle.rp_sheet.proofs.PlaceLemmas.{not_false}
 use Rattle.rp_sheet.proofs.FieldFaults.{role_is}
-use Rattle.rp_sheet.proofs.RowLemmas.{length-rows, all_rows}
+use Rattle.rp_num.proofs.RowsBelow.{length-rows, all_rows}
 use Rattle.rp_sheet.proofs.FineHeaders.{FineHeaders, fine_goods, column_there}
 use Rattle.rp_sheet.proofs.ColumnSizes.{sizes_in, sizes_are, within_limit, price_at}
 

@@ -3,12 +3,10 @@ pub mod FieldLemmas
 pub mod ColumnLemmas
 pub mod HeaderLemmas
 pub mod FieldFaults
-pub mod PassedOn
 pub mod NameLemmas
 pub mod SizeLemmas
 pub mod StageLemmas
 pub mod PlaceLemmas
-pub mod RowLemmas
 pub mod FineHeaders
 pub mod GoodHeaders
 pub mod FigureLemmas

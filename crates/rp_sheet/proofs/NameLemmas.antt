@@ -5,6 +5,7 @@ use Rattle.std.specs.Option.{option_map_or, option_or}
 use Rattle.std.proofs.lemmas.Bool.Decides.{nat_tests}
 use Rattle.std.proofs.lemmas.List.{map_push, append-nil}
 use Rattle.std.proofs.lemmas.List.Elements.{filter_more, All-cons, All-nil}
+use Rattle.std.proofs.lemmas.Bool.{and_parts}
 use Rattle.rp_table.specs.Names.{IsName}
 use Rattle.rp_forms.specs.Texts.{text_at}
 use Rattle.rp_forms.specs.Columns.{role_of, named_role, good_role, is_name, is_price, names_with, name_in, mark_of_prices, mark_of_quantities}
@@ -31,23 +32,18 @@ unfolding role_of good_role
 price_header marks header e =
     price_role (named_role header) (is_name (name_in header)) (starts_with nat_eq header (mark_of_prices marks)) (starts_with nat_eq header (mark_of_quantities marks)) (no_good header).0 e
 
-pub and_both : (a b : Bool) → (a && b) ≡ true → (a ≡ true) × (b ≡ true)
-and_both true true e = (refl, refl)
-and_both true false e = cc e
-and_both false b e = cc e
-
 printable : (name : List ℕ) → list_all (λ byte. nat_le 32 byte) name ≡ true → All (λ byte. 32 ≤ byte) name
 printable [] e = All-nil (λ byte. 32 ≤ byte)
 printable (byte ∷ name) e =
-    let both = and_both (nat_le 32 byte) (list_all (λ b. nat_le 32 b) name) e in
+    let both = and_parts (nat_le 32 byte) (list_all (λ b. nat_le 32 b) name) e in
     let first = both.0 in
     All-cons (λ b. 32 ≤ b) byte name (grind (arith, nat_tests)) (printable name both.1)
 
 -- a name by test
 pub named : (name : List ℕ) → is_name name ≡ true → IsName name
 named name e =
-    let both = and_both (nat_le 1 (length name) && nat_le (length name) 64) (list_all (λ byte. nat_le 32 byte) name) e in
-    let sizes = and_both (nat_le 1 (length name)) (nat_le (length name) 64) both.0 in
+    let both = and_parts (nat_le 1 (length name) && nat_le (length name) 64) (list_all (λ byte. nat_le 32 byte) name) e in
+    let sizes = and_parts (nat_le 1 (length name)) (nat_le (length name) 64) both.0 in
     let some = sizes.0 in
     let few = sizes.1 in
     (grind (arith, nat_tests), grind (arith, nat_tests), printable name both.1)

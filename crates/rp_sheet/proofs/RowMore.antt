@@ -1,11 +1,7 @@
 -- One more row of chosen numbers.
-use Rattle.std.proofs.Common.{◌≡◌, ℕ, zero, suc, ◌+◌, ◌<◌, List, ◌++◌, length, slice_index, get_or, refl, ap, ◌∙◌, arith, add-one}
+use Rattle.std.proofs.Common.{◌≡◌, ℕ, zero, suc, ◌+◌, List, ◌++◌, length, slice_index, get_or, refl, ap, ◌∙◌, arith, add-one}
 use Rattle.rp_num.specs.Below.{listed, rows_below}
-use Rattle.rp_num.proofs.BelowLemmas.{length-listed, get-listed}
-
-listed-same : (f h : ℕ → ℕ) (n : ℕ) → ((k : ℕ) → k < n → f k ≡ h k) → listed n f ≡ listed n h
-listed-same f h zero same = refl
-listed-same f h (suc n) same = rw (listed-same f h n (λ k below. same k (omega arith)), same n (omega arith)) refl
+use Rattle.rp_num.proofs.BelowLemmas.{length-listed, listed-same, get-listed}
 
 pub rows-more : (rows : ℕ → List ℕ) (column : ℕ → ℕ) (width t : ℕ) (numbers chosen row places : List ℕ)
     → numbers ≡ rows_below t width (λ s g. slice_index (rows s) (column g)) → row ≡ rows t → places ≡ listed width column → chosen ≡ listed (length places) (λ g. slice_index row (slice_index places g))

@@ -3,21 +3,19 @@ use Rattle.std.proofs.Common.{◌≡◌, ℕ, zero, suc, ◌+◌, ◌*◌, ◌^�
 use Rattle.std.specs.Int.{w64, w128}
 use Rattle.std.specs.Int.RustNames.{unsigned_abs}
 use mir.Val.{to_z, of_z}
-use Rattle.std.proofs.lemmas.Int.{ints, to_z-of_z, fits_signed_from_abs, unsigned_abs-mul}
+use Rattle.std.proofs.lemmas.Int.{to_z-of_z, fits_signed_from_abs, unsigned_abs-mul}
 use Rattle.std.proofs.lemmas.Nat.{mul-le}
 use Rattle.std.proofs.lemmas.Bool.{cases_lt}
 use Rattle.std.proofs.lemmas.List.{get_or_past}
 use Rattle.rp_farkas.specs.Limits.{largest_entry, most_rows}
 use Rattle.rp_farkas.specs.Total.{total}
 use Rattle.rp_farkas.proofs.Totals.{total-suc}
+use Rattle.rp_farkas.proofs.SumSteps.{abs_sum}
 use Rattle.rp_simplex.specs.InnerCombined.{AreSmall, ElementsFit, dot}
 
 -- the greatest absolute value of one product
 abbrev pub product_bound : ℕ
 product_bound = 2 ^ 63 * largest_entry
-
-pub abs_sum : (s t : ℤ) → unsigned_abs (s +ℤ t) ≤ unsigned_abs s + unsigned_abs t
-abs_sum s t = omega (arith, ints)
 
 pub product_size : (a b : ℤ) → unsigned_abs a < 2 ^ 63 → unsigned_abs b ≤ largest_entry → unsigned_abs (a *ℤ b) ≤ product_bound
 product_size a b ha hb = omega (arith, unsigned_abs-mul a b, mul-le (unsigned_abs a) (unsigned_abs b) (2 ^ 63) (largest_entry) (omega arith) hb)

@@ -18,7 +18,7 @@ use Rattle.rp_simplex.specs.Readout.{IsReadAt, IsPointAt, ArePricesAt, IsRayAt}
 use Rattle.rp_simplex.specs.InnerCombined.{delta}
 use Rattle.rp_simplex.proofs.Ring.{at, ◌⊕◌, ◌⊖◌, ◌⊗◌, ring}
 use Rattle.rp_simplex.proofs.Linear.{delta-same, delta-other, total-delta}
-use Rattle.rp_simplex.proofs.Sound.{IsSound}
+use Rattle.rp_simplex.proofs.Sound.{IsSound, first-right, first-slack}
 
 -- the row whose number is x, or none
 pub find_below : (n : ℕ) (b : ℕ → ℕ) (x : ℕ) → ((i : ℕ) × (i < n) × (b i ≡ x)) ⊎ ((i : ℕ) → i < n → b i ≢ x)
@@ -97,12 +97,6 @@ first-objective p j =
     let none : ltb p.rows p.rows ≡ false = ltb_no p.rows p.rows (omega arith) in
     let back : p.rows + j - p.rows ≡ j = omega arith in
     rw (no, none, back) refl
-
-first-slack : (p : LinearProgram) (i k : ℕ) → k < p.rows → first_entry p i (suc k) ≡ delta i k
-first-slack p i k l = let yes : ltb k p.rows ≡ true = lt-ltb k p.rows l in rw yes refl
-
-first-right : (p : LinearProgram) (i : ℕ) → i < p.rows → first_entry p i 0 ≡ p.b i
-first-right p i l = let yes : ltb i p.rows ≡ true = lt-ltb i p.rows l in rw yes refl
 
 first-corner : (p : LinearProgram) → first_entry p p.rows 0 ≡ pos 0
 first-corner p = let no : ltb p.rows p.rows ≡ false = ltb_no p.rows p.rows (omega arith) in rw no refl

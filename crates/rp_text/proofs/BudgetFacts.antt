@@ -1,5 +1,5 @@
 -- Records without a fault make budgets within the limits.
-use Rattle.std.proofs.Common.{◌≡◌, ℕ, ◌*◌, ◌<◌, ◌≤◌, true, false, List, [], length, slice_index, Option, Some, None, Ok, Err, refl, sym, ap, ◌∙◌, subst, arith}
+use Rattle.std.proofs.Common.{◌≡◌, ℕ, ◌*◌, ◌<◌, ◌≤◌, true, false, [], List, length, slice_index, Option, Some, None, Ok, Err, refl, sym, ap, ◌∙◌, subst, arith}
 use Rattle.std.specs.Prelude.{codes, unwrap_or}
 use Rattle.std.specs.Option.{option_map_or}
 use Rattle.rp_num.specs.declared.decimal.Decimal.{Decimal}
@@ -23,7 +23,7 @@ use Rattle.rp_forms.specs.declared.form.Role.{Role}
 use Rattle.rp_forms.specs.declared.form.Role.TheVariants.{Observation, Income}
 use Rattle.rp_sheet.specs.declared.fault.TableFault.{TableFault}
 use Rattle.rp_num.proofs.BelowLemmas.{length-listed}
-use Rattle.rp_sheet.proofs.RowLemmas.{length-rows, all_rows, all_listed, each_row}
+use Rattle.rp_num.proofs.RowsBelow.{length-rows, all_rows, all_listed, each_row}
 use Rattle.rp_sheet.proofs.MeasuredRoles.{measured_role}
 use Rattle.rp_sheet.proofs.FineHeaders.{FineHeaders, fine_headers, required_there}
 use Rattle.rp_sheet.proofs.GoodHeaders.{price_column}

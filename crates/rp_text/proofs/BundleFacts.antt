@@ -12,7 +12,7 @@ use Rattle.rp_sheet.specs.Sizes.{sizes_stage}
 use Rattle.rp_sheet.specs.SheetFiles.{IsReadFrom}
 use Rattle.rp_sheet.specs.Sheets.{column_of, numbers_under}
 use Rattle.rp_sheet.proofs.FileLemmas.{of_read, read_as, scaled_numbers}
-use Rattle.rp_sheet.proofs.RowLemmas.{each_row}
+use Rattle.rp_num.proofs.RowsBelow.{each_row}
 use Rattle.rp_text.specs.Denotation.{bundle_list, bundles_of}
 use Rattle.rp_sheet.proofs.FineHeaders.{FineHeaders, fine_headers}
 use Rattle.rp_sheet.proofs.ColumnSizes.{sizes_in, sizes_are}

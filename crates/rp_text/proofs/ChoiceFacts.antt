@@ -24,7 +24,7 @@ use Rattle.rp_forms.specs.declared.form.Role.{Role}
 use Rattle.rp_forms.specs.declared.form.Role.TheVariants.{Budget, Times}
 use Rattle.rp_sheet.specs.declared.fault.TableFault.{TableFault}
 use Rattle.rp_num.proofs.BelowLemmas.{length-listed}
-use Rattle.rp_sheet.proofs.RowLemmas.{all_listed, each_row}
+use Rattle.rp_num.proofs.RowsBelow.{all_listed, each_row}
 use Rattle.rp_sheet.proofs.FieldFaults.{role_is}
 use Rattle.rp_sheet.proofs.FineHeaders.{FineHeaders, fine_headers, required_there, column_there}
 use Rattle.rp_sheet.proofs.ColumnSizes.{sizes_in, sizes_are, within_limit, budget_at}

@@ -5,6 +5,7 @@ use Rattle.std.specs.List.{All}
 use Rattle.std.proofs.lemmas.Bool.Decides.{nat_tests}
 use Rattle.std.proofs.lemmas.List.{length-map, get_or-map}
 use Rattle.std.proofs.lemmas.List.Elements.{All-map}
+use Rattle.std.proofs.lemmas.Bool.{and_parts}
 use Rattle.rp_num.specs.declared.decimal.Decimal.{Decimal}
 use Rattle.rp_table.specs.ChoiceLists.{ChoiceList}
 use Rattle.rp_limits.specs.declared.table.TheConstants.{BUDGETS, GOODS}
@@ -27,9 +28,8 @@ use Rattle.rp_forms.specs.declared.form.Role.TheVariants.{Budget, Times}
 use Rattle.rp_sheet.specs.declared.fault.TableFault.{TableFault}
 use Rattle.rp_sheet.specs.declared.fault.TableFault.TheVariants as fault
 use Rattle.rp_num.proofs.BelowLemmas.{length-listed, get-listed}
-use Rattle.rp_sheet.proofs.NameLemmas.{and_both}
 use Rattle.rp_sheet.proofs.PlaceLemmas.{none_below, none_or, one_below}
-use Rattle.rp_sheet.proofs.RowLemmas.{all_listed}
+use Rattle.rp_num.proofs.RowsBelow.{all_listed}
 use Rattle.rp_sheet.proofs.FigureLemmas.{rows_are}
 use Rattle.rp_sheet.proofs.FineHeaders.{FineHeaders, fine_headers, column_there}
 use Rattle.rp_sheet.proofs.ColumnSizes.{sizes_in, sizes_are, unscaled}
@@ -98,7 +98,7 @@ module _ (budgets : ℕ) (goods headers : List (List ℕ)) (records : List (List
       let sizes = sizes_in (choices_form budgets) headers records in
       let test = λ (t : ℕ). ((figure_at figures t (column_named (codes "budget") headers)).units == j + 1) && nat_lt 0 (figure_at figures t (column_named (codes "n") headers)).units in
       let found = one_below test (length figures) (chosen_record budgets headers records stage j below) in
-      let tests = and_both ((figure_at figures found.0 (column_named (codes "budget") headers)).units == j + 1) _ found.2 in
+      let tests = and_parts ((figure_at figures found.0 (column_named (codes "budget") headers)).units == j + 1) _ found.2 in
       let there = both_there budgets goods headers records fine sound fine_fields fine_sizes in
       let row : found.0 < rows_in records = omega (arith, found.1, rows_are (choices_form budgets) headers records) in
       let inside : found.0 < length sizes = omega (arith, row, sizes_are (choices_form budgets) headers records) in

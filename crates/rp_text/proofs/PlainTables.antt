@@ -1,5 +1,5 @@
 -- Records of the plain form denote the table that they list.
-use Rattle.std.proofs.Common.{◌≡◌, ℕ, ◌+◌, ◌*◌, ◌/◌, ◌<◌, ◌≤◌, inl, inr, List, [], length, slice_index, get_or, None, Ok, refl, sym, ap, ◌∙◌, subst, arith}
+use Rattle.std.proofs.Common.{◌≡◌, ℕ, ◌+◌, ◌*◌, ◌/◌, ◌<◌, ◌≤◌, inl, inr, [], List, length, slice_index, get_or, None, Ok, refl, sym, ap, ◌∙◌, subst, arith}
 use Rattle.std.specs.Prelude.{◌%◌, unwrap_or}
 use Rattle.std.proofs.lemmas.Grind.{same_number_lists}
 use Rattle.std.proofs.lemmas.Nat.{mul-add-lt}
@@ -20,7 +20,7 @@ use Rattle.rp_sheet.specs.Sheets.{fault_under, first_fault, numbers_under, colum
 use Rattle.rp_text.specs.Plain.{IsPlainHeader, IsPlainRecord}
 use Rattle.rp_forms.specs.declared.form.Marks.TheVariants.{Goods}
 use Rattle.rp_forms.specs.declared.form.Role.TheVariants.{Price, Quantity}
-use Rattle.rp_sheet.proofs.RowLemmas.{length-rows, row_number}
+use Rattle.rp_num.proofs.RowsBelow.{length-rows, row_number}
 use Rattle.rp_sheet.proofs.StageLemmas.{under_headers, fine_records, in_none}
 use Rattle.rp_sheet.proofs.ColumnSizes.{sizes_are}
 use Rattle.rp_text.proofs.TableMade.{table_there}

@@ -1,5 +1,5 @@
 -- Records without a fault make new prices within the limits.
-use Rattle.std.proofs.Common.{◌≡◌, ℕ, ◌*◌, ◌<◌, ◌≤◌, Bool, true, false, if◌then◌else◌, ◌⊎◌, inl, inr, List, [], length, slice_index, Option, Some, None, refl, sym, ap, ◌∙◌, subst, arith}
+use Rattle.std.proofs.Common.{◌≡◌, ℕ, ◌*◌, ◌<◌, ◌≤◌, Bool, true, false, if◌then◌else◌, ◌⊎◌, inl, inr, [], List, length, slice_index, Option, Some, None, refl, sym, ap, ◌∙◌, subst, arith}
 use Rattle.std.specs.Prelude.{codes, unwrap_or}
 use Rattle.std.specs.List.{All}
 use Rattle.std.specs.Option.{option_map_or}
@@ -24,7 +24,7 @@ use Rattle.rp_forms.specs.declared.form.Marks.TheVariants.{Goods}
 use Rattle.rp_forms.specs.declared.form.Role.{Role}
 use Rattle.rp_forms.specs.declared.form.Role.TheVariants.{Observation, Expenditure}
 use Rattle.rp_num.proofs.BelowLemmas.{length-listed}
-use Rattle.rp_sheet.proofs.RowLemmas.{all_listed, each_row}
+use Rattle.rp_num.proofs.RowsBelow.{all_listed, each_row}
 use Rattle.rp_sheet.proofs.MeasuredRoles.{measured_role}
 use Rattle.rp_sheet.proofs.FineHeaders.{FineHeaders, fine_headers, required_there}
 use Rattle.rp_sheet.proofs.ColumnSizes.{sizes_in, sizes_are}

@@ -22,7 +22,8 @@ use Rattle.rp_sheet.proofs.FigureLemmas.{few_places}
 use Rattle.rp_sheet.proofs.GoodHeaders.{GoodHeaders, distinct_names, price_column, quantity_good_of, some_quantity}
 use Rattle.rp_sheet.proofs.MeasuredRoles.{measured_role}
 use Rattle.rp_sheet.proofs.PlaceLemmas.{found_at}
-use Rattle.rp_sheet.proofs.RowLemmas.{all_rows, each_row, length-rows, row_number, sum_at_least}
+use Rattle.rp_num.proofs.RowsBelow.{all_rows, each_row, length-rows, row_number}
+use Rattle.rp_table.proofs.SumsBelow.{sum_at_least}
 use Rattle.rp_text.specs.Denotation.{priced_table}
 
 -- files with prices, whose quantities have a scale of their own and are all that is measured

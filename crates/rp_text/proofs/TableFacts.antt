@@ -1,5 +1,5 @@
 -- Records without a fault make a table within the limits.
-use Rattle.std.proofs.Common.{◌≡◌, ◌≢◌, ℕ, zero, suc, ◌*◌, ◌<◌, ◌≤◌, inl, inr, Bool, true, false, if◌then◌else◌, List, [], length, slice_index, Option, Some, None, refl, sym, ap, ◌∙◌, subst, arith}
+use Rattle.std.proofs.Common.{◌≡◌, ◌≢◌, ℕ, zero, suc, ◌*◌, ◌<◌, ◌≤◌, inl, inr, Bool, true, false, if◌then◌else◌, [], List, length, slice_index, Option, Some, None, refl, sym, ap, ◌∙◌, subst, arith}
 use Rattle.std.specs.Prelude.{codes, unwrap_or, Vec, IfSome}
 use Rattle.std.specs.List.{All}
 use Rattle.std.specs.declared.alloc.Global.{Global}
@@ -23,7 +23,7 @@ use Rattle.rp_forms.specs.declared.form.Role.TheVariants.{OwnLevel}
 use Rattle.rp_forms.specs.declared.form.Marks.TheVariants.{Goods}
 use Rattle.rp_num.proofs.BelowLemmas.{length-listed}
 use Rattle.rp_sheet.proofs.FineHeaders.{column_there}
-use Rattle.rp_sheet.proofs.RowLemmas.{length-rows, all_listed}
+use Rattle.rp_num.proofs.RowsBelow.{length-rows, all_listed}
 use Rattle.rp_sheet.proofs.GoodHeaders.{GoodHeaders}
 use Rattle.rp_sheet.proofs.ColumnSizes.{sizes_in, sizes_are, level_at}
 

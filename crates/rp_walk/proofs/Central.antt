@@ -10,7 +10,7 @@ use Rattle.rp_walk.proofs.Order.{less_not_more, not_more_less, not_less-same}
 use Rattle.rp_walk.proofs.Walks.{IsTotal-further}
 use Rattle.rp_walk.proofs.Paths.{closed_part_below}
 use Rattle.rp_walk.proofs.Cycles.{total_after-same}
-use Rattle.rp_walk.proofs.Repeats.{repeats}
+use Rattle.rp_num.proofs.Repeats.{repeats}
 
 -- the first n + 1 values of a function, in a list
 values : (ℕ → ℕ) → ℕ → ℕ → List ℕ

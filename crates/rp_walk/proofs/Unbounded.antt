@@ -11,7 +11,7 @@ use Rattle.rp_walk.proofs.Order.{IsLess-irrefl, not_more_trans, not_less-same, s
 use Rattle.rp_walk.proofs.Walks.{All-cons}
 use Rattle.rp_walk.proofs.Paths.{IsTotal-prefix, follow}
 use Rattle.rp_walk.proofs.Cycles.{segment, drop-segment, end_of-segment, total_after-segment}
-use Rattle.rp_walk.proofs.Repeats.{Repeats, repeats}
+use Rattle.rp_num.proofs.Repeats.{Repeats, repeats}
 
 -- the observations of a walk by their places
 abbrev pub entry_of : ℕ → List ℕ → ℕ → ℕ

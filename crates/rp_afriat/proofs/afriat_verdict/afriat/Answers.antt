@@ -1,17 +1,13 @@
-use Rattle.std.proofs.Common.{rules, ◌≡◌, [], IfOk, Result, Ok, Err}
+use Rattle.std.proofs.Common.{[], rules, ◌≡◌}
 use Rattle.rp_evidence.specs.AfriatEvidence.{ProvesAfriat, ProvesOwnAfriat}
 use Rattle.rp_evidence.specs.declared.afriat.AfriatPart.TheVariants.{NoModel}
 use Rattle.rp_people.specs.Says.{SaysAfriat}
 use Rattle.rp_people.specs.TablesOfCosts.{OfEachTable}
 use Rattle.rp_people.proofs.TablesOfCosts.{afriat_of_each}
 use Rattle.rp_table.specs.Cost.{cost_at}
-use Rattle.rp_garp.proofs.MeetingLemmas.{ok_with}
+use Rattle.rp_garp.proofs.MeetingLemmas.{if_ok, ok_with}
 use Rattle.rp_afriat.proofs.SameVerdicts.{proves_at_one}
 use Rattle.rp_afriat.proofs.afriat_verdict.afriat.Goals as goal
-
-if_ok : {X E : Type 0} (P Q : X → Type 0) (N : Type 0) → (N → (x : X) → P x → Q x) → (r : Result X E) → IfOk r P → IfOk r (λ x. N → Q x)
-if_ok P Q N f (Ok x) p = λ none. f none x p
-if_ok P Q N f (Err e) p = p
 
 pub returns-in-Ranks-clause-proves_without_levels : goal.returns-in-Ranks-clause-proves_without_levels
 returns-in-Ranks-clause-proves_without_levels c =

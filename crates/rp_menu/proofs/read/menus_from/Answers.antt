@@ -1,5 +1,5 @@
 use Rattle.std.proofs.Common.{◌≡◌, ◌≢◌, List, length, None, Some, Ok, Err, sym, ap, subst, ◌∙◌}
-use Rattle.rp_sheet.proofs.PassedOn.{passed_on}
+use Rattle.rp_num.proofs.PassedOn.{passed_on}
 use Rattle.rp_menu.specs.Cells.{cells_below, letters_of, menu_list, menus_below}
 use Rattle.rp_menu.specs.Denotation.{cells_stage, denoted_menus, menus_stage}
 use Rattle.rp_menu.specs.MenuLists.{IsMenuList}

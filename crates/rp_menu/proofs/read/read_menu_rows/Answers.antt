@@ -1,4 +1,4 @@
-use Rattle.std.proofs.Common.{rules, ◌≡◌, ◌≢◌, ◌<◌, List, [], length, None, Some, sym, ap, subst, arith, ◌∙◌}
+use Rattle.std.proofs.Common.{rules, ◌≡◌, ◌≢◌, ◌<◌, [], List, length, None, Some, sym, ap, subst, arith, ◌∙◌}
 use Rattle.rp_num.proofs.BelowLemmas.{length-listed}
 use Rattle.rp_sheet.specs.Fields.{count_stage, rows_in}
 use Rattle.rp_forms.specs.Forms.{menus_form}
@@ -6,7 +6,7 @@ use Rattle.rp_sheet.specs.Headers.{headers_of, headers_stage}
 use Rattle.rp_forms.specs.declared.form.Form.{Form}
 use Rattle.rp_sheet.proofs.FigureLemmas.{whole_rows}
 use Rattle.rp_sheet.proofs.FineHeaders.{fine_headers}
-use Rattle.rp_sheet.proofs.PassedOn.{passed_on}
+use Rattle.rp_num.proofs.PassedOn.{passed_on}
 use Rattle.rp_menu.specs.Cells.{menu_row_at}
 use Rattle.rp_menu.specs.Denotation.{menu_rows_in, menu_row_of, sheet_fault, times_in, told}
 use Rattle.rp_menu.specs.InnerCells.{IsMenuRow}

@@ -1,4 +1,5 @@
 use Rattle.std.proofs.Common.{◌≤◌, List, ◌∙◌, ap, arith, length, refl, slice_index, subst, sym}
+use Rattle.rp_num.proofs.PassedOn.{passed_on}
 use Rattle.rp_patch.specs.Apportionment.{AreFilled, AreGrouped, GroupedCounts, HasShares}
 use Rattle.rp_patch.specs.Choices.{random_input_of}
 use Rattle.rp_patch.specs.InnerUnited.{SaysWhyNotShared, budgets_of, counts_of, times_of}
@@ -6,7 +7,7 @@ use Rattle.rp_patch.specs.Patches.{PatchList}
 use Rattle.rp_patch.specs.Units.{ArePatchesOf, SaysWhy}
 use Rattle.rp_patch.specs.declared.chosen.Chosen.{Chosen}
 use Rattle.rp_patch.proofs.ChosenGroups.{are_grouped, counts_is, few_on_each, some_on_every}
-use Rattle.rp_patch.proofs.PatchesMade.{are_patches, is_patch_list, passed_on, refused_units, united_by}
+use Rattle.rp_patch.proofs.PatchesMade.{are_patches, is_patch_list, refused_units, united_by}
 use Rattle.rp_patch.proofs.of_choices.patches.Goals as goal
 
 pub shared_out-requires-clause-grouped : goal.shared_out-requires-clause-grouped

@@ -5,7 +5,7 @@ use Rattle.rp_sheet.specs.SheetFiles.{denoted_by}
 use Rattle.rp_sheet.specs.declared.fault.TableFault.{TableFault}
 use Rattle.rp_sheet.specs.declared.fault.TableFault.TheVariants as fault
 use Rattle.rp_sheet.proofs.FileLemmas.{fault_of_file, read_from, value_of_file}
-use Rattle.rp_sheet.proofs.PassedOn.{passed_on}
+use Rattle.rp_num.proofs.PassedOn.{passed_on}
 use Rattle.rp_sheet.proofs.StageLemmas.{same_fault}
 use Rattle.rp_sheet.proofs.file.read_file.Goals as goal
 

@@ -3,7 +3,7 @@ use Rattle.rp_sheet.specs.Headers.{names_of, goods_stage}
 use Rattle.rp_sheet.specs.declared.fault.TableFault.{TableFault}
 use Rattle.rp_sheet.specs.declared.fault.TableFault.TheVariants as fault
 use Rattle.rp_sheet.proofs.FixedGoods.{in_present, in_missing, in_number, no_goods_fault}
-use Rattle.rp_sheet.proofs.PassedOn.{passed_on}
+use Rattle.rp_num.proofs.PassedOn.{passed_on}
 use Rattle.rp_sheet.proofs.fixed_goods.check_goods.Goals as goal
 
 pub returns-in_err-check_present-clause-refused : goal.returns-in_err-check_present-clause-refused

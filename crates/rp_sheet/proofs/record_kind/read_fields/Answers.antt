@@ -2,7 +2,7 @@ use Rattle.std.proofs.Common.{◌≡◌, ◌≢◌, ◌<◌, length, Some, sym, 
 use Rattle.rp_num.specs.Below.{first_of}
 use Rattle.rp_num.proofs.BelowLemmas.{first_at}
 use Rattle.rp_sheet.specs.declared.fault.TableFault.TheVariants as fault
-use Rattle.rp_sheet.proofs.PassedOn.{passed_on}
+use Rattle.rp_num.proofs.PassedOn.{passed_on}
 use Rattle.rp_sheet.proofs.record_kind.read_fields.Goals as goal
 
 pub returns-in_err-number-clause-refused : goal.returns-in_err-number-clause-refused

@@ -2,7 +2,7 @@ use Rattle.std.proofs.Common.{◌≡◌, ◌≢◌, None, Some, sym, ◌∙◌}
 use Rattle.rp_sheet.specs.Fields.{fault_in_record}
 use Rattle.rp_sheet.specs.declared.fault.TableFault.TheVariants as fault
 use Rattle.rp_sheet.proofs.FieldFaults.{after_fields, bad_field, ragged}
-use Rattle.rp_sheet.proofs.PassedOn.{passed_on}
+use Rattle.rp_num.proofs.PassedOn.{passed_on}
 use Rattle.rp_sheet.proofs.record_kind.read_record.Goals as goal
 
 pub returns-then-row_width-len-clause-refused : goal.returns-then-row_width-len-clause-refused

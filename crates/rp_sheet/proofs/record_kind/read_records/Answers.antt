@@ -2,7 +2,7 @@ use Rattle.std.proofs.Common.{◌≡◌, ◌≢◌, ◌<◌, Some, arith}
 use Rattle.rp_num.proofs.BelowLemmas.{first_at}
 use Rattle.rp_sheet.specs.Fields.{fault_in_record, fault_in_records, rows_in}
 use Rattle.rp_sheet.specs.declared.fault.TableFault.TheVariants as fault
-use Rattle.rp_sheet.proofs.PassedOn.{passed_on}
+use Rattle.rp_num.proofs.PassedOn.{passed_on}
 use Rattle.rp_sheet.proofs.record_kind.read_records.Goals as goal
 
 pub returns-in_err-row-clause-refused : goal.returns-in_err-row-clause-refused

@@ -5,7 +5,7 @@ use Rattle.rp_sheet.specs.declared.fault.TableFault.{TableFault}
 use Rattle.rp_sheet.specs.declared.fault.TableFault.TheVariants as fault
 use Rattle.rp_sheet.proofs.SheetStages.{empty_file, columns_fault, goods_fault, count_fault, fields_fault, sizes_fault, choices_fault, no_fault}
 use Rattle.rp_sheet.proofs.FigureLemmas.{whole_rows}
-use Rattle.rp_sheet.proofs.PassedOn.{passed_on}
+use Rattle.rp_num.proofs.PassedOn.{passed_on}
 use Rattle.rp_sheet.proofs.sheet.read_sheet.Goals as goal
 
 pub returns-then-len-eq0-clause-refused : goal.returns-then-len-eq0-clause-refused

@@ -5,7 +5,7 @@ use Rattle.rp_sheet.specs.Sizes.{size_at, sizes_stage}
 use Rattle.rp_sheet.specs.declared.fault.TableFault.{TableFault}
 use Rattle.rp_sheet.specs.declared.fault.TableFault.TheVariants as fault
 use Rattle.rp_num.proofs.BelowLemmas.{first_at}
-use Rattle.rp_sheet.proofs.PassedOn.{passed_on}
+use Rattle.rp_num.proofs.PassedOn.{passed_on}
 use Rattle.rp_sheet.proofs.sizes.read_sizes.Goals as goal
 
 pub returns-in_err-read_sizes_in-clause-refused : goal.returns-in_err-read_sizes_in-clause-refused

@@ -1,4 +1,4 @@
-use Rattle.std.proofs.Common.{◌≡◌, ◌≢◌, ◌<◌, [], length, get_or, Some, refl, arith, ap, ◌∙◌}
+use Rattle.std.proofs.Common.{[], ◌≡◌, ◌≢◌, ◌<◌, length, get_or, Some, refl, arith, ap, ◌∙◌}
 use Rattle.std.specs.Result.{result_err}
 use Rattle.std.proofs.lemmas.List.{get_or_default}
 use Rattle.rp_num.specs.Below.{first_of}
@@ -9,7 +9,7 @@ use Rattle.rp_sheet.specs.declared.fault.TableFault.{TableFault}
 use Rattle.rp_sheet.specs.declared.fault.TableFault.TheVariants as fault
 use Rattle.rp_num.proofs.BelowLemmas.{length-listed, first_fault_at, no_fault_so_far, listed-more}
 use Rattle.rp_sheet.proofs.SizeLemmas.{size_there}
-use Rattle.rp_sheet.proofs.PassedOn.{passed_on}
+use Rattle.rp_num.proofs.PassedOn.{passed_on}
 use Rattle.rp_sheet.proofs.sizes.read_sizes_in.Goals as goal
 
 pub bounds-places-c : goal.bounds-places-c

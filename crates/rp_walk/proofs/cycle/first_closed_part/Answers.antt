@@ -1,5 +1,5 @@
 use Rattle.std.proofs.Common.{◌+◌, arith}
-use Rattle.rp_walk.proofs.Repeats.{repeats}
+use Rattle.rp_num.proofs.Repeats.{repeats}
 use Rattle.rp_walk.proofs.cycle.first_closed_part.Goals as goal
 
 pub unreachable-requires : goal.unreachable-requires

@@ -4,7 +4,7 @@ use Rattle.std.specs.List.{All}
 use Rattle.rp_power.specs.Words.{word_after}
 use Rattle.rp_power.proofs.WordLemmas.{one_word_more, none_yet}
 use Rattle.rp_power.proofs.DrawnLemmas.{count_of, left}
-use Rattle.rp_sheet.proofs.RowLemmas.{all_listed}
+use Rattle.rp_num.proofs.RowsBelow.{all_listed}
 use Rattle.rp_answers.proofs.TrialLemmas.{quantities_more, quantity_at}
 use Rattle.rp_answers.proofs.trial.table.draw_quantities.Goals as goal
 

@@ -1,5 +1,5 @@
 use Rattle.std.proofs.Common.{true, false, sym, ◌∙◌}
-use Rattle.rp_sheet.proofs.PassedOn.{passed_err}
+use Rattle.rp_num.proofs.PassedOn.{passed_err}
 use Rattle.rp_menu.specs.Denotation.{told}
 use Rattle.rp_menu.proofs.MenuRowFaults.{after_number, bad_number}
 use Rattle.rp_menu.proofs.menu_rows.MenuRecordRecordKind.read_field.Goals as goal

@@ -1,11 +1,10 @@
 -- Rows of numbers in one list.
-use Rattle.std.proofs.Common.{◌≡◌, ℕ, zero, suc, ◌+◌, ◌*◌, ◌<◌, ◌≤◌, ◌++◌, length, get_or, ◌∙◌, subst, arith, below_more, length-append}
+use Rattle.std.proofs.Common.{◌≡◌, ℕ, zero, suc, ◌+◌, ◌*◌, ◌<◌, ◌++◌, length, get_or, ◌∙◌, subst, arith, below_more, length-append}
 use Rattle.std.specs.List.{All}
 use Rattle.std.proofs.lemmas.List.{get_or_append_left, get_or-append-add}
 use Rattle.std.proofs.lemmas.List.Elements.{All-nil, All-append, All-push}
 use Rattle.std.proofs.lemmas.Nat.{mul-add-lt}
 use Rattle.std.proofs.Math.Nat.{mul_comm}
-use Rattle.rp_table.specs.Sums.{sum_below}
 use Rattle.rp_num.specs.Below.{listed, rows_below}
 use Rattle.rp_num.proofs.BelowLemmas.{length-listed, get-listed}
 
@@ -42,9 +41,3 @@ each_row P n width f all t g row place =
     let below = mul-add-lt t width g n row place in
     let turned = mul_comm width n in
     subst P (row_number n width f t g row place) (all (t * width + g) 0 (omega (arith, length-rows n width f, below, turned)))
-
--- a sum is at least each of its terms
-pub sum_at_least : (f : ℕ → ℕ) (n k : ℕ) → k < n → f k ≤ sum_below n f
-sum_at_least f zero k within = absurd (omega arith)
-sum_at_least f (suc n) k within =
-    below_more (λ (i : ℕ). f i ≤ sum_below n f + f n) n (λ i below. omega (arith, sum_at_least f n i below)) (omega arith) k (omega arith)
