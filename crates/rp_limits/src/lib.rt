@@ -2,6 +2,8 @@
 #![tactic(auto)]
 
 pub mod command_line;
+pub mod generated;
+pub mod long;
 pub mod menu;
 pub mod patch;
 pub mod run;
