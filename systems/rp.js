@@ -79,7 +79,7 @@ function ask(room, frame, outputRoom, toldRoom) {
   if (![...places, output, told, lengths].every(Boolean)) return null;
   const given = [places[0], words.length, places[1], names.length, places[2], files, places[3], bytes.length];
   const numbers = [...given, output, outputRoom, told, toldRoom, lengths, lengths + 8].map(BigInt);
-  const status = room.exports.rp_answer(...numbers);
+  const status = room.exports[frame.call](...numbers);
   const [outputLength, toldLength] = [room.number(lengths), room.number(lengths + 8)];
   const isWhole = outputLength <= outputRoom && toldLength <= toldRoom;
   const texts = isWhole ? [room.copy(output, outputLength), room.copy(told, toldLength)] : [];
@@ -94,13 +94,15 @@ class Library {
 
   /**
    * Answers the words after the program's name over files, each `{ name, bytes }` with a `Uint8Array`, of which no more
-   * are given than the command names. Gives `{ status, output, told }`, the last two as bytes.
+   * are given than the command names; with `wide` as the wider edition of the program does. Gives
+   * `{ status, output, told }`, the last two as bytes.
    */
-  answer(words, files = []) {
+  answer(words, files = [], wide = false) {
     const sizes = new DataView(new ArrayBuffer(8 * files.length));
     const bytes = files.map((it) => it.bytes.subarray(0, MOST_READ));
     bytes.forEach((it, at) => sizes.setBigUint64(8 * at, BigInt(it.length), true));
     const frame = {
+      call: wide ? "rp_answer_wide" : "rp_answer",
       words: joined(words.map(ended)),
       names: joined(files.map((it) => ended(it.name))),
       sizes: new Uint8Array(sizes.buffer),
@@ -118,8 +120,8 @@ class Library {
   }
 
   /** The same with the texts as strings. */
-  texts(words, files = []) {
-    const { status, output, told } = this.answer(words, files);
+  texts(words, files = [], wide = false) {
+    const { status, output, told } = this.answer(words, files, wide);
     return { status, output: texts.decode(output), told: texts.decode(told) };
   }
 
