@@ -1,18 +1,8 @@
 # Levels of observations, and the commands that have no certificate. Expected values are those of the worked examples of
 # the repository's documents, or were computed by hand.
 library(revealed)
-if (is.null(rp_program(must = FALSE))) {
-  cat("there is no program, so nothing is tried\n")
-  quit("no", 0)
-}
-caught <- function(call, class) {
-  wrong <- tryCatch({
-    call
-    NULL
-  }, rp_error = identity)
-  stopifnot(inherits(wrong, class))
-  invisible(wrong)
-}
+source(system.file("testing", "opening.R", package = "revealed"))
+need_program()
 texts <- as.character
 P <- rbind(c(1, 2), c(2, 1))
 years <- data.frame(obs = 2024:2025, p_bread = c(1.25, 2.5), p_wine = c(2.5, 1.25), q_bread = 2:1, q_wine = 1:2)

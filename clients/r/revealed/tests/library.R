@@ -1,14 +1,7 @@
 # The library in place of the program: how it is found, and the same answers, from memory. It is what RP_TEST_LIBRARY names;
 # without it the second is left out.
 library(revealed)
-caught <- function(call, class) {
-  wrong <- tryCatch({
-    call
-    NULL
-  }, rp_error = identity)
-  stopifnot(inherits(wrong, class))
-  invisible(wrong)
-}
+source(system.file("testing", "opening.R", package = "revealed"))
 one <- matrix(1)
 old <- Sys.getenv(c("RP_EXEC", "RP_LIBRARY", "HOME", "PATH"), names = TRUE)
 back <- function() {

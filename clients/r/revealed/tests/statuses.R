@@ -1,13 +1,6 @@
 # How the program is found, and what is made of each status, by programs of our own.
 library(revealed)
-caught <- function(call, class) {
-  wrong <- tryCatch({
-    call
-    NULL
-  }, rp_error = identity)
-  stopifnot(inherits(wrong, class))
-  invisible(wrong)
-}
+source(system.file("testing", "opening.R", package = "revealed"))
 folder <- file.path(tempdir(), "a folder of our own")
 dir.create(folder)
 fake <- function(status, said = "", out = "", name = "rp") {

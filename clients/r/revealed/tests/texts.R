@@ -1,10 +1,8 @@
 # Texts that a shell, a CSV file, JSON or LaTeX could take for more than a text, in every argument of every call: each is
 # an answer or an error of this package, and none of them runs.
 library(revealed)
-if (is.null(rp_program(must = FALSE))) {
-  cat("there is no program, so nothing is tried\n")
-  quit("no", 0)
-}
+source(system.file("testing", "opening.R", package = "revealed"))
+need_program()
 room <- file.path(tempdir(), "texts")
 dir.create(room)
 old <- setwd(room)
