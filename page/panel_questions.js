@@ -2,7 +2,7 @@
 import { button, keepFile, labelled, make } from "./dom.js";
 import { area, pricePlacesOf, question } from "./questions.js";
 import { Purchases, decimalOf, inUnits, parseFault, parseReport } from "./reports.js";
-import { isWithheld } from "./says.js";
+import { WIDE_COLUMN, isWithheld } from "./says.js";
 import { bytesOf, parseRecords, placeInFile, placeInWords, writeRecords } from "./sheets.js";
 
 const BOUND = new RegExp(
@@ -60,7 +60,7 @@ function panelQuestion(client, households, kind, says, field, { working, progres
   const explains =
     "The same new prices for every household. Bounds are exact, in the units of the file, each with its decimal " +
     "rounded " +
-    "down beside it; where the axiom fails there are none.";
+    `down beside it; where the axiom fails there are none. ${WIDE_COLUMN}`;
   return question(says, explains, [labelled("New prices as CSV", field)], async (place, isCurrent) => {
     const [rows, began] = [[], performance.now()];
     const typed = { name: "new prices", bytes: bytesOf(field.value) };

@@ -6,7 +6,7 @@ import { MOST_SEED } from "./draws.js";
 import { limit } from "./facts.js";
 import { indexPicture, fileOf } from "./pictures.js";
 import { Purchases, asNumber, decimalOf, parseFault, parseReport } from "./reports.js";
-import { isWideTest } from "./says.js";
+import { WIDE_COLUMN, isWideTest } from "./says.js";
 import { parseRecords, writeRecords } from "./sheets.js";
 
 // How many rows stand on the page at once.
@@ -252,7 +252,8 @@ export class Panel {
     if (!isWhole) return;
     const found = this.#shown();
     this.body.replaceChildren(...found.slice(0, MOST_ROWS).map((row) => this.#row(row)));
-    const opens = " Press a household to see its picture and its cycle.";
+    const marked = this.rows.some((it) => it.wide) ? ` ${WIDE_COLUMN}` : "";
+    const opens = ` Press a household to see its picture and its cycle.${marked}`;
     this.note.textContent = (found.length > MOST_ROWS
       ? `The first ${MOST_ROWS} of ${found.length} rows are shown; the CSV has all.`
       : `${found.length} rows.`) + opens;

@@ -10,6 +10,11 @@ export const WIDE_MEANS =
   `${WIDE} marks what rp itself withholds, because an exact number of its own computation gets too long. The wider ` +
   "edition, rp-wide, found evidence, which the checker takes; the verdict is as true.";
 
+/** What the column `wide` of a table of many answers means. */
+export const WIDE_COLUMN =
+  "The column wide names what rp itself withholds and its wider edition, rp-wide, gives, with evidence that the " +
+  "checker takes.";
+
 /** Whether the homothetic verdict is given where `rp` itself withholds it; `stated` is what that writes, or nothing. */
 export const isWideTest = (output, stated) =>
   Boolean(stated) && parseReport(stated).items.homothetic.verdict.startsWith("withheld") &&

@@ -22,9 +22,7 @@ Explains = Callable[[Union[str, None], str, "dict[str, int]"], Exception]
 # ---- verdicts on a table
 
 
-def analyse(
-    p: Any, q: Any = None, *, levels: Any = None, places: Any = None, numbers: Any = "exact", exe: Any = None, wide: bool = True
-) -> Verdict:
+def analyse(p: Any, q: Any = None, *, levels: Any = None, places: Any = None, numbers: Any = "exact", exe: Any = None, wide: bool = True) -> Verdict:
     """Returns the Verdict on prices p and quantities q: two lists of rows, two arrays, or two frames; or on a table alone.
 
     `levels` gives each row its level, in whole thousandths of what was spent, where the frame has no column `e`. `places` rounds
@@ -37,9 +35,7 @@ def analyse(
     return Verdict(own, _certificate(["certify", TABLE], [own], exe, wide))
 
 
-def certify(
-    p: Any, q: Any = None, *, levels: Any = None, places: Any = None, numbers: Any = "exact", exe: Any = None, wide: bool = True
-) -> Certificate:
+def certify(p: Any, q: Any = None, *, levels: Any = None, places: Any = None, numbers: Any = "exact", exe: Any = None, wide: bool = True) -> Certificate:
     """Returns the Certificate of these verdicts."""
     return _certificate(["certify", TABLE], [table(p, q, places=places, numbers=numbers, levels=levels)], exe, wide)
 

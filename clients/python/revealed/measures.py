@@ -129,9 +129,7 @@ class CostMinimisation:
     `bounds` are those on each output that was asked.
     """
 
-    def __init__(
-        self, technology: Technology, asked: Sheet, report: bytes, is_asked: bool = True, stated: bytes | None = None, hint: str = ""
-    ) -> None:
+    def __init__(self, technology: Technology, asked: Sheet, report: bytes, is_asked: bool = True, stated: bytes | None = None, hint: str = "") -> None:
         self.technology = technology
         self.asked = asked
         self.report = report
