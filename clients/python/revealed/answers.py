@@ -4,6 +4,7 @@ from __future__ import annotations
 
 import json
 import os
+import re
 from fractions import Fraction
 from typing import Any, Callable, Iterable, Iterator, Sequence
 
@@ -448,14 +449,46 @@ class Part:
 
 
 class Patch:
-    """A patch that some type of a mixture has: its number and that of its budget, both from 1, and the share of the choices on that
-    budget which these types make there."""
+    """A patch: its number and that of its budget, both from 1, and a share of the choices on that budget: of all of them, the share
+    that falls there; of a mixture, what its types make there.
 
-    def __init__(self, number: int, budget: int, share: Fraction) -> None:
-        self.number, self.budget, self.share = number, budget, share
+    Where the patches themselves were asked for, `units` are so many of the budget's, and `sides` tells of each budget, by its label,
+    whether what is chosen in the patch costs less there than the income (`below`), just that (`on`), or more (`above`).
+    """
+
+    def __init__(self, number: int, budget: int, share: Fraction, units: int | None = None, sides: dict[Any, str] | None = None) -> None:
+        self.number, self.budget, self.share, self.units, self.sides = number, budget, share, units, sides
 
     def __repr__(self) -> str:
-        return f"<patch {self.number} of budget {self.budget}: {self.share}>"
+        told = "" if self.sides is None else f", {' '.join(self.sides.values())}"
+        return f"<patch {self.number} of budget {self.budget}: {self.share}{told}>"
+
+
+SIDES = re.compile(r"patch (\d+) budget (\d+) units (\d+) sides((?: (?:above|on|below))+)")
+
+
+def patches_of(choices: Choices, report: str) -> list[Patch]:
+    """Returns the patches that a report of `patches` tells, in their order."""
+    with reading(report):
+        head, *lines = report.splitlines()
+        told = re.fullmatch(r"budgets (\d+) patches (\d+) total (\d+)", head)
+        if told is None:
+            raise ValueError("no line on the patches")
+        budgets, count, total = map(exact.whole_of, told.groups())
+        if choices.per is not None and lines.pop(0) != f"apportioned per {choices.per}":
+            raise ValueError("another number of units")
+        labels = choices.budgets.labels
+        found = []
+        for line in lines:
+            own = SIDES.fullmatch(line)
+            if own is None:
+                raise ValueError("no line of a patch")
+            number, budget, units = map(exact.whole_of, own.groups()[:3])
+            sides = dict(strictly(labels, own[4].split()))
+            found.append(Patch(number, budget, Fraction(units, total), units, sides))
+        if len(found) != count or len(labels) != budgets or [it.number for it in found] != list(range(1, count + 1)):
+            raise ValueError("other patches than were told")
+        return found
 
 
 class RandomVerdict:
@@ -464,8 +497,7 @@ class RandomVerdict:
     `rational` is True, False, or None where the verdict is withheld: then `reason` says why. `share` is the greatest share
     of the choices that rational types make, a Fraction, 1 where `rational` is True. `parts` are the types that make it.
     `weights` are, where `rational` is False, the weight of each patch that shows that no more is possible: each rational
-    type weighs 1 or more. `patches` are those that these types have. What signs a patch has to the other budgets the program does
-    not tell. `choices` and `certificate` are what `verify` and `check` take.
+    type weighs 1 or more. `patches` are those that these types have; `revealed.patches` tells the sides of all. `choices` and `certificate` are what `verify` and `check` take.
     """
 
     def __init__(self, choices: Choices, certificate: Certificate) -> None:

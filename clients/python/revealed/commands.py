@@ -7,7 +7,7 @@ import os
 from typing import Any, Callable, Union
 
 from . import advice, exact, program, verifier
-from .answers import Answers, Certificate, Checked, RandomVerdict, Verdict, demands, reading, utilities, walk_of, welfares
+from .answers import Answers, Certificate, Checked, Patch, RandomVerdict, Verdict, demands, patches_of, reading, utilities, walk_of, welfares
 from .catalogue import DRAWS, PER, SEED, span
 from .faults import BadData, Failed, NoFile, Refused
 from .measures import CostMinimisation, MenuVerdict, MoneyPump, Power, Trial
@@ -155,6 +155,14 @@ def random_utility(budgets: Any, choices: Any, per: Any = None, *, places: Any =
     words = ["random", BUDGETS, CHOICES, "--json", *_units(own.per)]
     out = program.answer(words, {BUDGETS: own.budgets.csv(), CHOICES: own.choices.csv()}, exe, _explains_choices(own))
     return RandomVerdict(own, Certificate(out.encode()))
+
+
+def choice_patches(budgets: Any, choices: Any, per: Any = None, *, places: Any = None, numbers: Any = "exact", exe: Any = None) -> list[Patch]:
+    """Returns the patches that choices from budgets fall in: of each its budget, its share of that budget's choices, and the side of
+    every budget on which it lies. Budgets, choices and `per` are those of `random_utility`, and the patches have its numbers."""
+    own = Choices(budgets, choices, per, forms_of(places, numbers))
+    files = {BUDGETS: own.budgets.csv(), CHOICES: own.choices.csv()}
+    return patches_of(own, program.answer(["patches", BUDGETS, CHOICES, *_units(own.per)], files, exe, _explains_choices(own)))
 
 
 def menu_choices(choices: Any, per: Any = None, *, exe: Any = None) -> MenuVerdict:
@@ -363,4 +371,4 @@ def _read(path: Any) -> bytes:
 
 pairs, pump, power, trial = first_contradiction, money_pump, power_of_test, random_trial
 demand, welfare, utility = demand_bounds, welfare_bounds, afriat_utility
-cost, random, menus, checkrandom = cost_minimisation, random_utility, menu_choices, check
+cost, random, patches, menus, checkrandom = cost_minimisation, random_utility, choice_patches, menu_choices, check
