@@ -1,9 +1,9 @@
 /*
- * rp.h - revealed preference, as one call over files in memory.
+ * rp.h - revealed preference, as calls over files in memory, and one that tells which files they need.
  *
- * The call answers as the command `rp` does, to the same words over files of the same bytes. It reads no file, prints
- * nothing, starts no thread and keeps nothing between calls. What each command takes and writes is told in
- * docs/FORMATS.md; `rp` below is the command's name in its own texts.
+ * `rp_answer` answers as the command `rp` does, to the same words over files of the same bytes, and `rp_answer_wide` as
+ * `rp-wide`. No call reads a file, prints, starts a thread or keeps anything between calls. What each command takes and
+ * writes is told in docs/FORMATS.md; `rp` below is the command's name in its own texts.
  *
  *   cc program.c -lrp                 with the shared library
  *   cc program.c librp.a              with the static one: it needs nothing but the C library
@@ -65,6 +65,37 @@ int32_t rp_answer(
     uint8_t *output, size_t output_room,
     uint8_t *told, size_t told_room,
     uint64_t *output_length, uint64_t *told_length);
+
+/*
+ * Answers the words of a command line as `rp-wide` does: what `rp_answer` would withhold is given wherever evidence of
+ * it is found past the numbers that it keeps; all else is the same. Arguments, ownership, threads and statuses are those
+ * of `rp_answer`.
+ */
+int32_t rp_answer_wide(
+    const uint8_t *words, size_t words_length,
+    const uint8_t *names, size_t names_length,
+    const uint64_t *sizes, size_t files,
+    const uint8_t *bytes, size_t bytes_length,
+    uint8_t *output, size_t output_room,
+    uint8_t *told, size_t told_room,
+    uint64_t *output_length, uint64_t *told_length);
+
+/*
+ * Tells which files the words of a command line name, so that they can be read and given to `rp_answer` or
+ * `rp_answer_wide`, which take the same words.
+ *
+ * `words` are framed as above. The names go to `names` in the order of the words, each ended by a zero byte, as far as
+ * there is room; a name that the words have twice is told twice. `names_length` takes how long all of them are, also
+ * where they did not fit: where it is greater than the room, call again with that much. Ownership and threads are as
+ * above.
+ *
+ * Returns RP_DONE with the names; RP_USAGE where the words are no command line, RP_NO_TEXT where one is not UTF-8,
+ * RP_MALFORMED where the last is not ended, and RP_NO_MEMORY: of these no name is told.
+ */
+int32_t rp_files(
+    const uint8_t *words, size_t words_length,
+    uint8_t *names, size_t names_room,
+    uint64_t *names_length);
 
 #ifdef __cplusplus
 }

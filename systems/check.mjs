@@ -119,6 +119,23 @@ if (heap) {
 const library = await load(bytes);
 for (const [words, files] of calls) library.answer(words, files);
 const most = pages(library);
+const namesOf = (words) => JSON.stringify(library.files(words));
+for (const [words, files] of calls) {
+  const { status, names } = library.files(words);
+  const isNamed = status !== 0 || files.every((it) => names.includes(it.name));
+  expect(isNamed && (status === 0 || names.length === 0), `the files of ${words}: ${namesOf(words)}`);
+}
+expect(namesOf(["demand", "--json", "t.csv", "é.csv"]) === '{"status":0,"names":["t.csv","é.csv"]}', "demand's files");
+expect(namesOf(["trial", "1", "2", "3"]) === '{"status":0,"names":[]}', "a trial's files");
+expect(namesOf(["pairs"]) === '{"status":2,"names":[]}', "the files of words that are no line");
+const long = "x".repeat(10000);
+expect(namesOf(["check", long, long]) === JSON.stringify({ status: 0, names: [long, long] }), "long names");
+const held = "p_a,q_a,p_b,q_b\n4194304,2097151,1,4194304\n1,1747627,3145727,2796203\n1,4194304,4194304,2097151\n";
+const withheld = [["analyse", "t.csv"], [{ name: "t.csv", bytes: Buffer.from(held) }]];
+const [stated, filled] = [false, true].map((isWide) => library.texts(...withheld, isWide).output);
+const isFilled = stated.includes("homothetic withheld") && !filled.includes("withheld");
+expect(isFilled, `what rp withholds: ${stated} by the wide call: ${filled}`);
+expect(library.texts([], [], true).told.startsWith("usage: rp-wide "), "the usage of the wide call");
 const fresh = await load(bytes);
 for (const [words, files] of small) fresh.answer(words, files);
 const before = pages(fresh);

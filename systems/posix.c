@@ -48,5 +48,5 @@ void write_told(const uint8_t *text, size_t length) {
 }
 
 int main(int count, char **words) {
-    return program(count ? count - 1 : 0, count ? words + 1 : words);
+    return program(count, words);
 }

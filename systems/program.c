@@ -1,9 +1,10 @@
-/* The command `rp` where the program is not built by Rattle's own tools: it hands the words and the files to `rp_answer`,
-   the library's one call, and writes what that answers.
+/* The command `rp` where the program is not built by Rattle's own tools: it hands the words and the files to `rp_answer` of
+   the library, and writes what that answers. Where the program is called by the name `rp-wide` it is that command, by
+   `rp_answer_wide`.
 
-   The library tells which file it wants next: where one is not given it answers that its reading failed. So the files are
-   read in the order of the words. The command refuses a file before it asks for the next; so where one cannot be read, an
-   earlier one may have to be refused all the same: it is asked once more, with nothing in the files from there on. */
+   The library tells which files the words name, and they are read in that order. The command refuses a file before it reads
+   the next; so where one cannot be read, an earlier one may have to be refused all the same: that is so where the answer is
+   the same whatever stands in the files from there on, of which two contents are tried that no file may have. */
 #include "system.h"
 
 #include <stdbool.h>
@@ -11,11 +12,13 @@
 #include <stdlib.h>
 #include <string.h>
 
-int32_t rp_answer(const uint8_t *words, size_t words_length, const uint8_t *names, size_t names_length,
-                  const uint64_t *sizes, size_t files, const uint8_t *bytes, size_t bytes_length, uint8_t *output,
-                  size_t output_room, uint8_t *told, size_t told_room, uint64_t *output_length, uint64_t *told_length);
+typedef int32_t Call(const uint8_t *words, size_t words_length, const uint8_t *names, size_t names_length,
+                     const uint64_t *sizes, size_t files, const uint8_t *bytes, size_t bytes_length, uint8_t *output,
+                     size_t output_room, uint8_t *told, size_t told_room, uint64_t *output_length, uint64_t *told_length);
+Call rp_answer, rp_answer_wide;
+int32_t rp_files(const uint8_t *words, size_t words_length, uint8_t *names, size_t names_room, uint64_t *names_length);
 
-enum { READ_FAULT = 3, REFUSED = 4, WRITE_FAULT = 5, NO_MEMORY = 6 };
+enum { REFUSED = 4, WRITE_FAULT = 5, NO_MEMORY = 6 };
 /* No command takes more of them. */
 enum { MOST_FILES = 8 };
 /* One more than the most bytes that a file may have. */
@@ -27,8 +30,9 @@ typedef struct {
     size_t length, room;
 } Bytes;
 
-/* What is asked: the words, and the files that are known by now. */
+/* What is asked: by which call, the words, and the files that are given. */
 typedef struct {
+    Call *call;
     Bytes words, names, bytes;
     uint64_t sizes[MOST_FILES];
     size_t files;
@@ -74,9 +78,9 @@ static int without_memory(void) {
 /* Asks the library once. The lengths are set to the whole ones, whatever the room is. */
 static void ask(const Question *asked, Answer *given) {
     uint64_t output_length = 0, told_length = 0;
-    given->status = rp_answer(asked->words.at, asked->words.length, asked->names.at, asked->names.length, asked->sizes,
-                              asked->files, asked->bytes.at, asked->bytes.length, given->output.at, given->output.room,
-                              given->told.at, given->told.room, &output_length, &told_length);
+    given->status = asked->call(asked->words.at, asked->words.length, asked->names.at, asked->names.length, asked->sizes,
+                                asked->files, asked->bytes.at, asked->bytes.length, given->output.at, given->output.room,
+                                given->told.at, given->told.room, &output_length, &told_length);
     given->output.length = (size_t)output_length;
     given->told.length = (size_t)told_length;
 }
@@ -103,23 +107,22 @@ static bool ask_whole(const Question *asked, Answer *given) {
     return true;
 }
 
-/* The name of the file whose reading failed, ended by a zero byte in place of what follows it; or none. */
-static char *wanted_file(const Answer *given) {
-    static const char before[] = "rp: ", after[] = ": read failed\n";
-    size_t least = sizeof before - 1 + sizeof after - 1;
-    if (given->status != READ_FAULT || given->told.length <= least)
-        return NULL;
-    size_t end = given->told.length - (sizeof after - 1);
-    char *name = (char *)given->told.at + sizeof before - 1;
-    char *copy = malloc(end - (sizeof before - 1) + 1);
-    if (copy) {
-        memcpy(copy, name, end - (sizeof before - 1));
-        copy[end - (sizeof before - 1)] = 0;
+/* Asks which files the words name, and once more where there was not enough room. Of words that are no line there are none. */
+static bool ask_names(const Question *asked, Bytes *wanted) {
+    for (;;) {
+        uint64_t length = 0;
+        int32_t status = rp_files(asked->words.at, asked->words.length, wanted->at, wanted->room, &length);
+        wanted->length = (size_t)length;
+        if (status == NO_MEMORY)
+            return false;
+        if (wanted->length <= wanted->room)
+            return true;
+        if (!fit(wanted))
+            return false;
     }
-    return copy;
 }
 
-/* Whether a file of this name is known already. */
+/* Whether a file of this name is given already. */
 static bool is_known(const Question *asked, const char *name) {
     const char *at = (const char *)asked->names.at, *end = at + asked->names.length;
     for (; at < end; at += strlen(at) + 1)
@@ -163,46 +166,59 @@ static FileRead read_into(Question *asked, const char *name) {
     return FILE_READ;
 }
 
-/* Takes a file as empty, in the place of one that cannot be read, or that the command would not ask for any more. */
-static bool take_empty(Question *asked, const char *name) {
-    asked->sizes[asked->files++] = 0;
-    return append(&asked->names, name, strlen(name) + 1);
-}
-
-/* Whether what is told is of the file of this name. */
-static bool is_of(const Answer *given, const char *name) {
-    size_t length = strlen(name);
-    const char *told = (const char *)given->told.at;
-    return given->told.length > length + 5 && memcmp(told + 4, name, length) == 0 && told[4 + length] == ':';
-}
-
-/* The end where a file cannot be read: an earlier one is refused before it is asked for; else that it failed is told. */
-static bool end_unread(Answer *given, const char *unread) {
-    if (given->status == REFUSED && !is_of(given, unread))
-        return true;
-    given->status = READ_FAULT;
-    given->output.length = given->told.length = 0;
-    return append(&given->told, "rp: ", 4) && append(&given->told, unread, strlen(unread))
-           && append(&given->told, ": read failed\n", 14);
-}
-
-/* Answers, and reads each file that is wanted. */
-static bool answer(Question *asked, Answer *given) {
-    char *unread = NULL;
-    for (;;) {
-        if (!ask_whole(asked, given))
+/* Gives each file from this name on the same content, whatever it holds. */
+static bool fill_from(Question *asked, const Bytes *wanted, const char *name, const char *content) {
+    for (const char *end = (const char *)wanted->at + wanted->length; name < end; name += strlen(name) + 1) {
+        if (is_known(asked, name))
+            continue;
+        if (!append(&asked->names, name, strlen(name) + 1) || !append(&asked->bytes, content, strlen(content)))
             return false;
-        char *name = wanted_file(given);
-        if (!name || asked->files == MOST_FILES || is_known(asked, name))
-            return unread ? end_unread(given, unread) : given->status != READ_FAULT || name;
-        FileRead ended = unread ? FILE_FAILED : read_into(asked, name);
-        if (ended == FILE_NO_MEMORY || (ended == FILE_FAILED && !take_empty(asked, name)))
-            return false;
-        if (ended == FILE_FAILED && !unread)
-            unread = name;
-        else
-            free(name);
+        asked->sizes[asked->files++] = strlen(content);
     }
+    return true;
+}
+
+/* What is answered where each file from this name on has that content, and the question is as it was then. */
+static bool ask_filled(Question *asked, const Bytes *wanted, const char *name, const char *content, Answer *given) {
+    size_t names = asked->names.length, bytes = asked->bytes.length, files = asked->files;
+    bool is_answered = fill_from(asked, wanted, name, content) && ask_whole(asked, given);
+    asked->names.length = names;
+    asked->bytes.length = bytes;
+    asked->files = files;
+    return is_answered;
+}
+
+static bool is_refused_alike(const Answer *one, const Answer *other) {
+    return one->status == REFUSED && other->status == REFUSED && one->told.length == other->told.length
+           && memcmp(one->told.at, other->told.at, one->told.length) == 0;
+}
+
+/* The answer where the file of this name cannot be read: that an earlier one is refused, or else that this one failed. */
+static bool answer_unread(Question *asked, const Bytes *wanted, const char *name, Answer *given) {
+    Answer other = {0};
+    bool fits = reserve(&other.output, 1) && reserve(&other.told, 4096);
+    /* Each kind of file is refused for one reason where it is empty, and for another where it is "{}". */
+    fits = fits && ask_filled(asked, wanted, name, "", given) && ask_filled(asked, wanted, name, "{}", &other);
+    free(other.output.at);
+    bool is_earlier = fits && is_refused_alike(given, &other);
+    free(other.told.at);
+    return fits && (is_earlier || ask_whole(asked, given));
+}
+
+/* Reads the files that the words name, and answers. */
+static bool answer(Question *asked, Answer *given) {
+    Bytes wanted = {0};
+    if (!reserve(&wanted, 1) || !ask_names(asked, &wanted))
+        return false;
+    const char *name = (const char *)wanted.at, *end = name + wanted.length;
+    for (; name < end && asked->files < MOST_FILES; name += strlen(name) + 1) {
+        FileRead ended = is_known(asked, name) ? FILE_READ : read_into(asked, name);
+        if (ended == FILE_NO_MEMORY)
+            return false;
+        if (ended == FILE_FAILED)
+            return answer_unread(asked, &wanted, name, given);
+    }
+    return ask_whole(asked, given);
 }
 
 static int finish(const Answer *given) {
@@ -215,13 +231,25 @@ static int finish(const Answer *given) {
     return given->status;
 }
 
-/* Answers the words after the program's name, each in UTF-8. */
+/* Whether a program's name, with folders before it or without, is `rp-wide` or `rp-wide.exe`, in letters of either size. */
+static bool is_wide(const char *name) {
+    static const char wanted[] = "rp-wide.exe";
+    for (const char *it = name; *it; it++)
+        if (*it == '/' || *it == '\\')
+            name = it + 1;
+    size_t length = strlen(name), at = 0;
+    while (at < length && at < sizeof wanted - 1 && (name[at] | ('A' <= name[at] && name[at] <= 'Z' ? 32 : 0)) == wanted[at])
+        at++;
+    return at == length && (length == 7 || length == sizeof wanted - 1);
+}
+
+/* Answers the words, each in UTF-8, of which the first is the program's name. */
 int program(int count, char **words) {
-    Question asked = {0};
+    Question asked = {.call = count > 0 && is_wide(words[0]) ? rp_answer_wide : rp_answer};
     Answer given = {0};
     bool fits = reserve(&asked.words, 1) && reserve(&asked.names, 1) && reserve(&asked.bytes, 1)
                 && reserve(&given.output, 65536) && reserve(&given.told, 4096);
-    for (int at = 0; fits && at < count; at++)
+    for (int at = 1; fits && at < count; at++)
         fits = append(&asked.words, words[at], strlen(words[at]) + 1);
     if (!fits || !answer(&asked, &given))
         return without_memory();

@@ -1,6 +1,7 @@
 /**
  * The library as a module that a page and Node share: `load` takes the bytes of rp.wasm, and what it gives answers the
- * words of a command over files in memory. Nothing is kept between calls, and nothing is read or written besides.
+ * words of a command over files in memory, and tells which files the words name. Nothing is kept between calls, and
+ * nothing is read or written besides.
  */
 
 /** One more than the most bytes that a file of any kind may have: a longer one is refused by its length alone. */
@@ -73,17 +74,27 @@ const NO_MEMORY = { status: 6, output: new Uint8Array(), told: bytesOf.encode("r
 
 /** Asks once, with this much room for the output and for what is told. */
 function ask(room, frame, outputRoom, toldRoom) {
-  const { words, names, sizes, bytes, files } = frame;
+  const { words, names, sizes, bytes, files, isWide } = frame;
   const places = [words, names, sizes, bytes].map((it) => room.put(it));
   const [output, told, lengths] = [room.take(outputRoom), room.take(toldRoom), room.take(16)];
   if (![...places, output, told, lengths].every(Boolean)) return null;
   const given = [places[0], words.length, places[1], names.length, places[2], files, places[3], bytes.length];
   const numbers = [...given, output, outputRoom, told, toldRoom, lengths, lengths + 8].map(BigInt);
-  const status = room.exports.rp_answer(...numbers);
+  const call = isWide ? room.exports.rp_answer_wide : room.exports.rp_answer;
+  const status = call(...numbers);
   const [outputLength, toldLength] = [room.number(lengths), room.number(lengths + 8)];
   const isWhole = outputLength <= outputRoom && toldLength <= toldRoom;
   const texts = isWhole ? [room.copy(output, outputLength), room.copy(told, toldLength)] : [];
   return { status, outputLength, toldLength, isWhole, texts };
+}
+
+/** Asks once which files the words name, with this much room for their names. */
+function askNames(room, words, namesRoom) {
+  const [given, names, length] = [room.put(words), room.take(namesRoom), room.take(8)];
+  if (![given, names, length].every(Boolean)) return null;
+  const status = room.exports.rp_files(...[given, words.length, names, namesRoom, length].map(BigInt));
+  const namesLength = room.number(length);
+  return { status, namesLength, names: namesLength <= namesRoom ? room.copy(names, namesLength) : null };
 }
 
 class Library {
@@ -94,9 +105,10 @@ class Library {
 
   /**
    * Answers the words after the program's name over files, each `{ name, bytes }` with a `Uint8Array`, of which no more
-   * are given than the command names. Gives `{ status, output, told }`, the last two as bytes.
+   * are given than the command names. Gives `{ status, output, told }`, the last two as bytes. With `isWide` it answers
+   * as `rp-wide`: what `rp` withholds is given wherever evidence of it is found.
    */
-  answer(words, files = []) {
+  answer(words, files = [], isWide = false) {
     const sizes = new DataView(new ArrayBuffer(8 * files.length));
     const bytes = files.map((it) => it.bytes.subarray(0, MOST_READ));
     bytes.forEach((it, at) => sizes.setBigUint64(8 * at, BigInt(it.length), true));
@@ -106,10 +118,11 @@ class Library {
       sizes: new Uint8Array(sizes.buffer),
       bytes: joined(bytes),
       files: files.length,
+      isWide,
     };
     let [outputRoom, toldRoom] = [65536, 4096];
     for (;;) {
-      const given = this.#call(frame, outputRoom, toldRoom);
+      const given = this.#call((room) => ask(room, frame, outputRoom, toldRoom));
       if (!given) return NO_MEMORY;
       if (given.isWhole) return { status: given.status, output: given.texts[0], told: given.texts[1] };
       outputRoom = Math.max(outputRoom, given.outputLength);
@@ -118,16 +131,34 @@ class Library {
   }
 
   /** The same with the texts as strings. */
-  texts(words, files = []) {
-    const { status, output, told } = this.answer(words, files);
+  texts(words, files = [], isWide = false) {
+    const { status, output, told } = this.answer(words, files, isWide);
     return { status, output: texts.decode(output), told: texts.decode(told) };
   }
 
-  #call(frame, outputRoom, toldRoom) {
+  /**
+   * Tells which files the words after the program's name name, in their order: `{ status, names }` with the status 0.
+   * There is no name where the words are no line (2) or memory is short (6).
+   */
+  files(words) {
+    const framed = joined(words.map(ended));
+    let namesRoom = 4096;
+    for (;;) {
+      const given = this.#call((room) => askNames(room, framed, namesRoom));
+      if (!given) return { status: NO_MEMORY.status, names: [] };
+      if (given.names) {
+        const names = texts.decode(given.names).split("\0").slice(0, -1);
+        return { status: given.status, names };
+      }
+      namesRoom = given.namesLength;
+    }
+  }
+
+  #call(asks) {
     this.instance ??= new WebAssembly.Instance(this.module, {});
     const room = new Room(this.instance.exports);
     try {
-      const given = ask(room, frame, outputRoom, toldRoom);
+      const given = asks(room);
       room.giveBack();
       return given;
     } catch (error) {

@@ -1,11 +1,11 @@
 #!/usr/bin/env node
-// The command `rp` for Node on any system: the words, files, streams and statuses of the program, over rp.wasm.
+// The command `rp` for Node on any system: the words, files, streams and statuses of the program, over rp.wasm. As a file
+// of the name rp-wide.mjs it is the command `rp-wide`.
 import { closeSync, openSync, readFileSync, readSync, writeSync } from "node:fs";
 
-const [READ_FAULT, REFUSED, WRITE_FAULT, NO_MEMORY, NO_TEXT] = [3, 4, 5, 6, 7];
+const [REFUSED, WRITE_FAULT, NO_MEMORY, NO_TEXT] = [4, 5, 6, 7];
 /** No answer: a file beside this one is missing or damaged, or the module stopped. The program has no such end. */
 const NO_MODULE = 70;
-const texts = new TextDecoder();
 
 /** Reads a file, or as much of it as shows that it is too long; nothing where the system fails. */
 function bytesOf(name, most) {
@@ -44,28 +44,42 @@ function writes(stream, bytes) {
   return true;
 }
 
-const fileWanted = ({ status, told }) =>
-  status === READ_FAULT ? /^rp: ([^]*): read failed\n$/.exec(texts.decode(told))?.[1] : undefined;
+/** The library's answers, by the edition that this file is named for. */
+function named(library) {
+  const isWide = import.meta.url.endsWith("/rp-wide.mjs");
+  return {
+    files: (words) => library.files(words),
+    answer: (words, files) => library.answer(words, files, isWide),
+  };
+}
+
+const isAlike = (one, other) =>
+  one.status === REFUSED && other.status === REFUSED && Buffer.from(one.told).equals(other.told);
 
 /**
- * Answers, and reads each file when the library wants it: it tells that the reading of one that is not given failed.
- * The command refuses a file before it asks for the next; so where one cannot be read, an earlier one may have to be
- * refused all the same: it is asked once more, with nothing in the files from there on.
+ * Answers where the first of these names cannot be read. The command refuses a file before it reads the next; so an
+ * earlier one may have to be refused all the same: that is so where the answer is the same whatever stands in the files
+ * from there on. Each kind of file is refused for one reason where it is empty, and for another where it is `{}`.
  */
+function answerUnread(library, words, files, names) {
+  const filled = (text) =>
+    library.answer(words, [...files, ...names.map((name) => ({ name, bytes: Buffer.from(text) }))]);
+  const refused = filled("");
+  return isAlike(refused, filled("{}")) ? refused : library.answer(words, files);
+}
+
+/** Reads the files that the words name, in their order, and answers. Of words that are no line there are none. */
 function answer(library, words, most) {
+  const wanted = library.files(words);
+  if (wanted.status === NO_MEMORY) throw new RangeError("memory is short");
+  const names = [...new Set(wanted.names)];
   const files = [];
-  let unread = null;
-  for (;;) {
-    const given = library.answer(words, files);
-    const wanted = fileWanted(given);
-    if (wanted === undefined || files.some((it) => it.name === wanted)) {
-      const isEarlier = given.status === REFUSED && !texts.decode(given.told).startsWith(`rp: ${unread?.name}:`);
-      return unread && !isEarlier ? unread.answer : given;
-    }
-    const bytes = unread ? null : bytesOf(wanted, most);
-    if (!bytes) unread ??= { name: wanted, answer: given };
-    files.push({ name: wanted, bytes: bytes ?? new Uint8Array() });
+  for (const [at, name] of names.entries()) {
+    const bytes = bytesOf(name, most);
+    if (!bytes) return answerUnread(library, words, files, names.slice(at));
+    files.push({ name, bytes });
   }
+  return library.answer(words, files);
 }
 
 /** Writes a line of the command's own on standard error, and gives the status that it stands with. */
@@ -79,7 +93,7 @@ async function main() {
   const library = await load(readFileSync(new URL("rp.wasm", import.meta.url)));
   let given;
   try {
-    given = answer(library, process.argv.slice(2), MOST_READ);
+    given = answer(named(library), process.argv.slice(2), MOST_READ);
   } catch (error) {
     if (error instanceof NoText) return NO_TEXT;
     throw error;

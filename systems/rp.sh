@@ -1,5 +1,5 @@
 #!/bin/sh
-# The command `rp` by Node, from wherever this file stands, also by a link to it.
+# The command that this file is named for by Node, from wherever it stands, also by a link to it.
 at=$0
 while [ -h "$at" ]; do
   to=$(readlink "$at")
@@ -8,4 +8,4 @@ while [ -h "$at" ]; do
     *) at=$(dirname "$at")/$to ;;
   esac
 done
-exec node "$(dirname "$at")/rp.mjs" "$@"
+exec node "$(dirname "$at")/$(basename "$at").mjs" "$@"

@@ -22,7 +22,7 @@ bool write_output(const uint8_t *text, size_t length);
 /* Writes to standard error as much as the system takes. */
 void write_told(const uint8_t *text, size_t length);
 
-/* The status of the command, for the words after the program's name in UTF-8. */
+/* The status of the command, for its words in UTF-8. The first, where there is one, is the program's name. */
 int program(int count, char **words);
 
 #endif

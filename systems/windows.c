@@ -127,5 +127,5 @@ int main(void) {
         if (status)
             return ended(status);
     }
-    return program(count ? count - 1 : 0, count ? words + 1 : words);
+    return program(count, words);
 }

@@ -32,24 +32,48 @@ void *__wrap_realloc(void *at, size_t size) {
 
 static const char words[] = "analyse\0t.csv", names[] = "t.csv";
 static const char table[] = "p_a,q_a,p_b,q_b\n1,1,2,2\n2,2,1,1\n";
+/* One for which rp withholds a verdict, and rp-wide gives it. */
+static const char held[] = "p_a,q_a,p_b,q_b\n4194304,2097151,1,4194304\n1,1747627,3145727,2796203\n1,4194304,4194304,2097151\n";
 static const char line[] = "rp: out of memory\n";
 
-static int32_t call(uint8_t *output, size_t room, uint64_t *length, uint8_t *told, uint64_t *told_length) {
-    uint64_t size = sizeof table - 1;
-    return rp_answer(
+static int32_t call(int is_wide, uint8_t *output, size_t room, uint64_t *length, uint8_t *told, uint64_t *told_length) {
+    const char *text = is_wide ? held : table;
+    uint64_t size = strlen(text);
+    return (is_wide ? rp_answer_wide : rp_answer)(
         (const uint8_t *)words, sizeof words, (const uint8_t *)names, sizeof names, &size, 1,
-        (const uint8_t *)table, size, output, room, told, 64, length, told_length);
+        (const uint8_t *)text, size, output, room, told, 64, length, told_length);
 }
 
-int main(void) {
+/* The same of the call that names files; how often it was refused, or -1. */
+static long name_refused(void) {
+    long refused = 0;
+    for (for_good = 0; for_good < 2; for_good++) {
+        for (long place = 0;; place++) {
+            uint8_t named[16];
+            uint64_t length = 99;
+            before = place;
+            int32_t status = rp_files((const uint8_t *)words, sizeof words, named, sizeof named, &length);
+            int was_reached = before < 0 || (for_good && before == 0);
+            before = -1;
+            int is_answered = status == RP_DONE && length == sizeof names && memcmp(named, names, sizeof names) == 0;
+            if (!is_answered && (status != RP_NO_MEMORY || length != 0)) return -1;
+            refused += !is_answered;
+            if (!was_reached) break;
+        }
+    }
+    return refused;
+}
+
+/* Each allocation of an answer fails in turn; whether an answer was wrong, or none was refused. */
+static int is_wrong(int is_wide) {
     static uint8_t wanted[4096], output[4096], told[64];
     uint64_t wanted_length = 0, length = 0, told_length = 0;
-    int wrong = call(wanted, sizeof wanted, &wanted_length, told, &told_length) != RP_DONE;
+    int wrong = call(is_wide, wanted, sizeof wanted, &wanted_length, told, &told_length) != RP_DONE;
     long place = 0, refused = 0;
     for (for_good = 0; for_good < 2; for_good++) {
         for (place = 0;; place++) {
             before = place;
-            int32_t status = call(output, sizeof output, &length, told, &told_length);
+            int32_t status = call(is_wide, output, sizeof output, &length, told, &told_length);
             int was_reached = before < 0 || (for_good && before == 0);
             before = -1;
             int is_refused = status == RP_NO_MEMORY && length == 0 && told_length == sizeof line - 1
@@ -63,4 +87,11 @@ int main(void) {
     }
     printf("%ld allocations of a call; refused %ld of %ld times\n", place, refused, 2 * place);
     return wrong || refused == 0;
+}
+
+int main(void) {
+    int wrong = is_wrong(0) + is_wrong(1);
+    long unnamed = name_refused();
+    printf("of the call that names files refused %ld times\n", unnamed);
+    return wrong || unnamed <= 0;
 }

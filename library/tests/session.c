@@ -1,7 +1,7 @@
 /*
- * The command `rp` by way of the library: reads the files that the words name, calls, and writes what it gets. It is for
- * the sessions of the documents, which have to come out as with the program. A word that names no file that can be read is
- * passed over, so that the library tells which one is missing.
+ * The command `rp` by way of the library: asks which files the words name, reads them, calls, and writes what it gets. It is
+ * for the sessions of the documents, which have to come out as with the program. A file that cannot be read is passed over,
+ * so that the library tells that it is missing.
  */
 #include <stdio.h>
 #include <stdlib.h>
@@ -32,9 +32,22 @@ static void add_file(struct bytes *to, FILE *file) {
 /* The most files that a command has. */
 enum { FILES = 3 };
 
-/* Whether a word is that of a file: not the command, nor an option or the number behind it. */
-static int may_be_file(int place, char **words) {
-    return place > 1 && words[place][0] != '-' && strcmp(words[place - 1], "--per") != 0;
+/* The names of the files that the words name, each ended by a zero byte; one byte of room at first, and then enough. */
+static void ask_names(const struct bytes *words, struct bytes *names) {
+    uint64_t length = 1;
+    do {
+        names->room = length;
+        names->at = (uint8_t *)realloc(names->at, names->room + 1);
+        if (!names->at || rp_files(words->at, words->length, names->at, names->room, &length) == RP_NO_MEMORY) exit(6);
+    } while (length > names->room);
+    names->length = length;
+}
+
+/* Whether a name is among these. */
+static int has_name(const struct bytes *names, const char *name) {
+    for (size_t at = 0; at < names->length; at += strlen((char *)names->at + at) + 1)
+        if (strcmp((char *)names->at + at, name) == 0) return 1;
+    return 0;
 }
 
 static void write_all(FILE *to, const struct bytes *text, uint64_t length) {
@@ -43,7 +56,7 @@ static void write_all(FILE *to, const struct bytes *text, uint64_t length) {
 
 int main(int count, char **arguments) {
     struct bytes words = {NULL, 0, 0}, names = {NULL, 0, 0}, content = {NULL, 0, 0};
-    struct bytes output = {NULL, 0, 0}, told = {NULL, 0, 0};
+    struct bytes output = {NULL, 0, 0}, told = {NULL, 0, 0}, wanted = {NULL, 0, 0};
     uint64_t sizes[FILES] = {0}, output_length = 1, told_length = 1;
     size_t files = 0;
     int32_t status;
@@ -51,14 +64,16 @@ int main(int count, char **arguments) {
     add(&names, "", 1);
     add(&content, "", 1);
     words.length = names.length = content.length = 0;
-    for (int place = 1; place < count; place++) {
-        add(&words, arguments[place], strlen(arguments[place]) + 1);
-        FILE *file = files < FILES && may_be_file(place, arguments) ? fopen(arguments[place], "rb") : NULL;
+    for (int place = 1; place < count; place++) add(&words, arguments[place], strlen(arguments[place]) + 1);
+    ask_names(&words, &wanted);
+    for (size_t at = 0; at < wanted.length; at += strlen((char *)wanted.at + at) + 1) {
+        const char *name = (const char *)wanted.at + at;
+        FILE *file = files < FILES && !has_name(&names, name) ? fopen(name, "rb") : NULL;
         if (file) {
             size_t before = content.length;
             add_file(&content, file);
             fclose(file);
-            add(&names, arguments[place], strlen(arguments[place]) + 1);
+            add(&names, name, strlen(name) + 1);
             sizes[files++] = content.length - before;
         }
     }
@@ -76,6 +91,7 @@ int main(int count, char **arguments) {
     write_all(stdout, &output, output_length);
     write_all(stderr, &told, told_length);
     free(words.at);
+    free(wanted.at);
     free(names.at);
     free(content.at);
     free(output.at);

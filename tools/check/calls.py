@@ -2,6 +2,12 @@
 import os
 import subprocess
 
+# A table on which the homothetic test holds, and for which rp withholds it.
+HELD = """p_a,q_a,p_b,q_b
+4194304,2097151,1,4194304
+1,1747627,3145727,2796203
+1,4194304,4194304,2097151
+"""
 GOODS = ["bread", "wine", "tea", "coal", "milk", "salt"]
 
 

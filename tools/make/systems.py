@@ -1,6 +1,6 @@
 """Builds the library for other systems than Linux on x86-64: WebAssembly, Windows, and Linux on ARM.
 
-The library is one call, `rp_answer`, of the crate rp_c, whose functions are proved as ever. Rattle's compiler lowers it to
+The library is the calls of the crate rp_c, whose functions are proved as ever. Rattle's compiler lowers it to
 one LLVM module for x86-64 (of any processor of that kind), and the toolchain folder that it is given here keeps that
 module. Here its text gets the layout and the name of the other system, without the attributes that only Linux has, and
 the kit's own clang compiles it. For ARM Rattle's compiler has a target of its own. No proof covers what is done here.
@@ -41,13 +41,14 @@ NEEDS = {
 }
 
 
-CALL = "the functions of the library's call, proved by rt ci as Rattle's compiler has them before any backend"
+CALL = "the functions of the library's calls, proved by rt ci as Rattle's compiler has them before any backend"
 TRIED = "no proof covers the compiler for this system, the link and the code around the call; run by tools/check/systems"
 # How a program for Linux is linked statically: for any address, bound at its start, its stack not run.
 STATIC = ["-static-pie", "-s", "-Wl,--gc-sections,-z,relro,-z,now,-z,noexecstack,-z,noseparate-code"]
 # How the program for ARM is linked of what stands beside it, under link/ in its archive.
 ARM_PARTS = ["link/program.o", "link/posix.o", "link/heap.o", "link/librp_c.a"]
 ARM_LINK = ["aarch64-linux-gnu-gcc", *STATIC, "-o", "rp", *ARM_PARTS]
+FOR_WINDOWS = f"{CALL}; their LLVM module compiled for x86_64-pc-windows-gnu by the kit's clang; linked with systems/program.c and windows.c by mingw-w64's gcc; {TRIED} under Wine"
 # What stands behind each file, for PROVED: what was proved, and by what it was compiled, linked and run.
 ORIGINS = {
     "arm": {
@@ -55,7 +56,8 @@ ORIGINS = {
         **{it: "what rp is linked from" for it in ARM_PARTS},
     },
     "windows": {
-        "rp.exe": f"{CALL}; their LLVM module compiled for x86_64-pc-windows-gnu by the kit's clang; linked with systems/program.c and windows.c by mingw-w64's gcc; {TRIED} under Wine",
+        "rp.exe": FOR_WINDOWS,
+        "rp-wide.exe": f"the same file as rp.exe, which answers as rp-wide under this name: {FOR_WINDOWS}",
         "rp.dll": f"{CALL}; their LLVM module compiled as for rp.exe; linked as a library by mingw-w64's gcc; {TRIED} under Wine",
         "librp.dll.a": "what a program is linked with that takes rp.dll",
         "rp.h": "the call in C",
@@ -65,6 +67,8 @@ ORIGINS = {
         "rp.js": "JavaScript around the module, for a page and for Node; no proof covers it; run by tools/check/systems",
         "rp.mjs": "the command for Node over rp.js; no proof covers it; run by tools/check/systems",
         "rp": "a script of the shell that starts rp.mjs by Node",
+        "rp-wide.mjs": "the same file as rp.mjs, which answers as rp-wide under this name",
+        "rp-wide": "the same file as rp, which starts rp-wide.mjs",
     },
     "c": {
         "rp.c": f"{CALL}, in the module rp.wasm of the release for the web; translated to C by wasm2c of WABT, which no proof covers, as none covers the C around the calls, your compiler and its link; run by tools/check/one-file",
@@ -198,8 +202,9 @@ def linked_wasm(objects, exports, made, room):
 def web(room):
     """Returns the files of WebAssembly: the module, the JavaScript that a page and Node share, and the command for Node."""
     objects = compiled("wasm", ["heap.ll", "wasm_heap.c", "wasm_guard.c"], room)
-    module = linked_wasm(objects, ("rp_answer", "malloc", "free"), f"{room}/rp.wasm", room)
-    return {"rp.wasm": module, "rp.js": f"{SOURCES}/rp.js", "rp.mjs": f"{SOURCES}/rp.mjs", "rp": f"{SOURCES}/rp.sh"}
+    module = linked_wasm(objects, ("rp_answer", "rp_answer_wide", "rp_files", "malloc", "free"), f"{room}/rp.wasm", room)
+    commands = {it: source for name in ("rp", "rp-wide") for it, source in ((name, f"{SOURCES}/rp.sh"), (f"{name}.mjs", f"{SOURCES}/rp.mjs"))}
+    return {"rp.wasm": module, "rp.js": f"{SOURCES}/rp.js", **commands}
 
 
 def heap(room):
@@ -238,11 +243,12 @@ def windows(room):
     sources = [f"{SOURCES}/{it}" for it in ("program.c", "windows.c")]
     told = told_of("rp.exe", "revealed preference with proved verdicts", 1, room)
     ran([*gcc, *sources, *objects, told, "-lshell32", "-o", f"{room}/rp.exe"], room)
+    shutil.copy(f"{room}/rp.exe", f"{room}/rp-wide.exe")
     exported = [f"{SOURCES}/rp.def", f"-Wl,--out-implib,{room}/librp.dll.a"]
     told = told_of("rp.dll", "the library of rp, revealed preference with proved verdicts", 2, room)
     # Else its base is drawn from the name of its file, with the folder.
     ran([*gcc, "-shared", "-Wl,--disable-auto-image-base", *objects, told, *exported, "-o", f"{room}/rp.dll"], room)
-    return {it: f"{room}/{it}" for it in ("rp.exe", "rp.dll", "librp.dll.a")} | {"rp.h": f"{TOP}/library/rp.h"}
+    return {it: f"{room}/{it}" for it in ("rp.exe", "rp-wide.exe", "rp.dll", "librp.dll.a")} | {"rp.h": f"{TOP}/library/rp.h"}
 
 
 def arm_library(room):

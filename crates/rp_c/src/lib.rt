@@ -1,13 +1,17 @@
-//! The suite as a library that programs in C call: one function over files in memory. It hands its arguments to the
-//! library crate of the same call, and states that contract again.
+//! The suite as a library that programs in C call: one function over files in memory for each edition of the program, and
+//! one that tells which files the words name. They hand their arguments to the library crate of the same calls, and state
+//! those contracts again.
 #![tactic(auto)]
 
 ghost use Rattle.std.specs.Prelude.{◌≡◌, pos};
 ghost use Rattle.rp_frame.specs.Frames.{frame_of};
-ghost use Rattle.rp_call.specs.CallEndings.{EndsSo, IsDecided, ending_number};
+ghost use Rattle.rp_call.specs.CallEndings.{EndsSo, EndsSoBy, IsDecided, ending_number};
+ghost use Rattle.rp_call.specs.NamedFiles.{NamesSo};
 ghost use Rattle.rp_call.specs.declared.ending.Ending.{Ending};
+ghost use Rattle.rp_run_wide.specs.Filling.{as_filled};
 
-use rp_call::answer;
+use rp_call::{answer, answer_edition, name_files};
+use rp_run_wide::Filled;
 use std::alloc::Global;
 
 /// The answer to the words of a command line over files in memory, as `rp.h` tells; the status is the result.
@@ -40,4 +44,50 @@ pub extern "C" fn rp_answer(
         told_length,
     )
     .number()
+}
+
+/// The same by the edition that fills what is withheld, as `rp-wide` does.
+#[unsafe(no_mangle)]
+pub extern "C" fn rp_answer_wide(
+    alloc: Global,
+    words: &[u8],
+    names: &[u8],
+    sizes: &[u64],
+    bytes: &[u8],
+    output: &mut [u8],
+    told: &mut [u8],
+    output_length: &mut u64,
+    told_length: &mut u64,
+) -> i32
+    ensures { (ending : Ending) × (result ≡ pos (ending_number ending))
+        × EndsSoBy as_filled (frame_of words.now names.now sizes.now bytes.now) ending
+        output.old output.new output_length.new told.old told.new told_length.new
+        × IsDecided (frame_of words.now names.now sizes.now bytes.now) ending }
+{
+    answer_edition::<Filled>(
+        alloc,
+        words,
+        names,
+        sizes,
+        bytes,
+        output,
+        told,
+        output_length,
+        told_length,
+    )
+    .number()
+}
+
+/// The names of the files that the words of a command line name, as `rp.h` tells; the status is the result.
+#[unsafe(no_mangle)]
+pub extern "C" fn rp_files(
+    alloc: Global,
+    words: &[u8],
+    names: &mut [u8],
+    names_length: &mut u64,
+) -> i32
+    ensures { (ending : Ending) × (result ≡ pos (ending_number ending))
+        × NamesSo words.now ending names.old names.new names_length.new }
+{
+    name_files(alloc, words, names, names_length).number()
 }

@@ -1,7 +1,7 @@
 -- The causes of the endings exclude one another, so the frame decides which ending comes.
 use Rattle.std.proofs.Common.{◌≡◌, ◌<◌, ℕ, List, Some, None, Ok, Err, inl, inr, refl, subst, ap, arith, length}
 use Rattle.rp_command_line.specs.CommandLine.{Line, files_of}
-use Rattle.rp_answers.specs.Printed.{as_stated}
+use Rattle.rp_answers.specs.Printed.{Printed}
 use Rattle.rp_answers.specs.declared.status.Status.{Status}
 use Rattle.rp_answers.specs.declared.status.Status.TheVariants.{Done, Rejected, Usage, ReadFault, Refused, WriteFault, NoMemory}
 use Rattle.rp_patch.proofs.Determined.{same_list}
@@ -47,55 +47,55 @@ accepted_apart request line other told asks also accepted refuses =
     let held = accepted here.0 here.1 in
     denoted_apart line here.0 held.0 told held.1 here.2
 
-no_line_of : (request : Request) (s : Status) (text told : List ℕ) → asked_of request ≡ None → IsStatusOf request s text told → s ≡ Usage
-no_line_of request Done text told none is = absurd (none_apart request is.line none is.asks.asked)
-no_line_of request Rejected text told none is = absurd (none_apart request is.line none is.asks.asked)
-no_line_of request Usage text told none is = refl
-no_line_of request ReadFault text told none is = absurd (none_apart request is.line none is.asks.asked)
-no_line_of request Refused text told none is = absurd (none_apart request is.line none is.asks.asked)
-no_line_of request WriteFault text told none is = absurd is
-no_line_of request NoMemory text told none is = absurd is
+no_line_of : (printed : Printed) (request : Request) (s : Status) (text told : List ℕ) → asked_of request ≡ None → IsStatusOf printed request s text told → s ≡ Usage
+no_line_of printed request Done text told none is = absurd (none_apart request is.line none is.asks.asked)
+no_line_of printed request Rejected text told none is = absurd (none_apart request is.line none is.asks.asked)
+no_line_of printed request Usage text told none is = refl
+no_line_of printed request ReadFault text told none is = absurd (none_apart request is.line none is.asks.asked)
+no_line_of printed request Refused text told none is = absurd (none_apart request is.line none is.asks.asked)
+no_line_of printed request WriteFault text told none is = absurd is
+no_line_of printed request NoMemory text told none is = absurd is
 
-few_of : (request : Request) (s : Status) (text told : List ℕ) → HasTooMany request → IsStatusOf request s text told → ⊥
-few_of request Done text told many is = many_apart request is.line many is.asks
-few_of request Rejected text told many is = many_apart request is.line many is.asks
-few_of request Usage text told many is = none_apart request many.line is.no_line many.asked
-few_of request ReadFault text told many is = many_apart request is.line many is.asks
-few_of request Refused text told many is = many_apart request is.line many is.asks
-few_of request WriteFault text told many is = is
-few_of request NoMemory text told many is = is
+few_of : (printed : Printed) (request : Request) (s : Status) (text told : List ℕ) → HasTooMany request → IsStatusOf printed request s text told → ⊥
+few_of printed request Done text told many is = many_apart request is.line many is.asks
+few_of printed request Rejected text told many is = many_apart request is.line many is.asks
+few_of printed request Usage text told many is = none_apart request many.line is.no_line many.asked
+few_of printed request ReadFault text told many is = many_apart request is.line many is.asks
+few_of printed request Refused text told many is = many_apart request is.line many is.asks
+few_of printed request WriteFault text told many is = is
+few_of printed request NoMemory text told many is = is
 
-missing_of : (request : Request) (line : Line) (k : ℕ) (s : Status) (text told : List ℕ) → Asks request line
-    → IsFirstMissing request.files (files_of line) k → IsStatusOf request s text told → s ≡ ReadFault
-missing_of request line k Done text told asks first is = absurd (given_apart request is.line line k is.asks is.given asks first)
-missing_of request line k Rejected text told asks first is = absurd (given_apart request is.line line k is.asks is.given asks first)
-missing_of request line k Usage text told asks first is = absurd (none_apart request line is.no_line asks.asked)
-missing_of request line k ReadFault text told asks first is = refl
-missing_of request line k Refused text told asks first is = absurd (given_apart request is.line line k is.asks is.given asks first)
-missing_of request line k WriteFault text told asks first is = absurd is
-missing_of request line k NoMemory text told asks first is = absurd is
+missing_of : (printed : Printed) (request : Request) (line : Line) (k : ℕ) (s : Status) (text told : List ℕ) → Asks request line
+    → IsFirstMissing request.files (files_of line) k → IsStatusOf printed request s text told → s ≡ ReadFault
+missing_of printed request line k Done text told asks first is = absurd (given_apart request is.line line k is.asks is.given asks first)
+missing_of printed request line k Rejected text told asks first is = absurd (given_apart request is.line line k is.asks is.given asks first)
+missing_of printed request line k Usage text told asks first is = absurd (none_apart request line is.no_line asks.asked)
+missing_of printed request line k ReadFault text told asks first is = refl
+missing_of printed request line k Refused text told asks first is = absurd (given_apart request is.line line k is.asks is.given asks first)
+missing_of printed request line k WriteFault text told asks first is = absurd is
+missing_of printed request line k NoMemory text told asks first is = absurd is
 
-refused_of : (request : Request) (line : Line) (s : Status) (text told : List ℕ) → Asks request line → AreGiven request.files (files_of line)
-    → IsRefused (given_files request) line → IsStatusOf request s text told → s ≡ Refused
-refused_of request line Done text told asks given refused is =
-    absurd (not_both as_stated (given_files request) (asked_of request) is.line line Done text is.asks.asked asks.asked is.answers refused)
-refused_of request line Rejected text told asks given refused is =
-    absurd (not_both as_stated (given_files request) (asked_of request) is.line line Rejected text is.asks.asked asks.asked is.answers refused)
-refused_of request line Usage text told asks given refused is = absurd (none_apart request line is.no_line asks.asked)
-refused_of request line ReadFault text told asks given refused is = absurd (given_apart request line is.line is.place asks given is.asks is.first)
-refused_of request line Refused text told asks given refused is = refl
-refused_of request line WriteFault text told asks given refused is = absurd is
-refused_of request line NoMemory text told asks given refused is = absurd is
+refused_of : (printed : Printed) (request : Request) (line : Line) (s : Status) (text told : List ℕ) → Asks request line → AreGiven request.files (files_of line)
+    → IsRefused (given_files request) line → IsStatusOf printed request s text told → s ≡ Refused
+refused_of printed request line Done text told asks given refused is =
+    absurd (not_both printed (given_files request) (asked_of request) is.line line Done text is.asks.asked asks.asked is.answers refused)
+refused_of printed request line Rejected text told asks given refused is =
+    absurd (not_both printed (given_files request) (asked_of request) is.line line Rejected text is.asks.asked asks.asked is.answers refused)
+refused_of printed request line Usage text told asks given refused is = absurd (none_apart request line is.no_line asks.asked)
+refused_of printed request line ReadFault text told asks given refused is = absurd (given_apart request line is.line is.place asks given is.asks is.first)
+refused_of printed request line Refused text told asks given refused is = refl
+refused_of printed request line WriteFault text told asks given refused is = absurd is
+refused_of printed request line NoMemory text told asks given refused is = absurd is
 
-accepted_of : (request : Request) (line : Line) (s : Status) (text told : List ℕ) → Asks request line → AreGiven request.files (files_of line)
-    → IsAccepted (given_files request) line → IsStatusOf request s text told → IsEnd s
-accepted_of request line Done text told asks given accepted is = tt
-accepted_of request line Rejected text told asks given accepted is = tt
-accepted_of request line Usage text told asks given accepted is = absurd (none_apart request line is.no_line asks.asked)
-accepted_of request line ReadFault text told asks given accepted is = absurd (given_apart request line is.line is.place asks given is.asks is.first)
-accepted_of request line Refused text told asks given accepted is = absurd (accepted_apart request line is.line told asks is.asks accepted is.refuses)
-accepted_of request line WriteFault text told asks given accepted is = absurd is
-accepted_of request line NoMemory text told asks given accepted is = absurd is
+accepted_of : (printed : Printed) (request : Request) (line : Line) (s : Status) (text told : List ℕ) → Asks request line → AreGiven request.files (files_of line)
+    → IsAccepted (given_files request) line → IsStatusOf printed request s text told → IsEnd s
+accepted_of printed request line Done text told asks given accepted is = tt
+accepted_of printed request line Rejected text told asks given accepted is = tt
+accepted_of printed request line Usage text told asks given accepted is = absurd (none_apart request line is.no_line asks.asked)
+accepted_of printed request line ReadFault text told asks given accepted is = absurd (given_apart request line is.line is.place asks given is.asks is.first)
+accepted_of printed request line Refused text told asks given accepted is = absurd (accepted_apart request line is.line told asks is.asks accepted is.refuses)
+accepted_of printed request line WriteFault text told asks given accepted is = absurd is
+accepted_of printed request line NoMemory text told asks given accepted is = absurd is
 
 one_request : (frame : Frame) (request other : Request) → request_in frame ≡ Some request → request_in frame ≡ Some other → request ≡ other
 one_request frame request other is also = cc
@@ -104,25 +104,25 @@ none_held : (frame : Frame) (request : Request) → request_in frame ≡ None �
 none_held frame request none is = cc
 
 -- a status of one request of a frame is that of the other
-moved : (frame : Frame) (request other : Request) (s : Status) (text told : List ℕ) → Requests frame request → Requests frame other
-    → IsStatusOf request s text told → IsStatusOf other s text told
-moved frame request other s text told requests also status =
-    subst (λ (r : Request). IsStatusOf r s text told) (one_request frame request other requests.held also.held) status
+moved : (printed : Printed) (frame : Frame) (request other : Request) (s : Status) (text told : List ℕ) → Requests frame request → Requests frame other
+    → IsStatusOf printed request s text told → IsStatusOf printed other s text told
+moved printed frame request other s text told requests also status =
+    subst (λ (r : Request). IsStatusOf printed r s text told) (one_request frame request other requests.held also.held) status
 
-decided_status : (frame : Frame) (request : Request) (s : Status) (text told : List ℕ) → Requests frame request
-    → IsStatusOf request s text told → IsDecided frame (Ran s)
-decided_status frame request s text told requests status = record {
+decided_status : (printed : Printed) (frame : Frame) (request : Request) (s : Status) (text told : List ℕ) → Requests frame request
+    → IsStatusOf printed request s text told → IsDecided frame (Ran s)
+decided_status printed frame request s text told requests status = record {
   malformed = λ none. absurd (none_held frame request none requests.held);
   no_text = λ other is no_text. absurd (no_text (subst (λ (r : Request). IsText r) (one_request frame request other requests.held is) requests.text));
-  no_line = λ other also none. inl (ap Ran (no_line_of other s text told none (moved frame request other s text told requests also status)));
+  no_line = λ other also none. inl (ap Ran (no_line_of printed other s text told none (moved printed frame request other s text told requests also status)));
   too_many = λ other line also asked many.
-      absurd (few_of other s text told (record { line = line; asked = asked; many = many }) (moved frame request other s text told requests also status));
+      absurd (few_of printed other s text told (record { line = line; asked = asked; many = many }) (moved printed frame request other s text told requests also status));
   missing = λ other line k also asks first.
-      inl (ap Ran (missing_of other line k s text told asks first (moved frame request other s text told requests also status)));
+      inl (ap Ran (missing_of printed other line k s text told asks first (moved printed frame request other s text told requests also status)));
   refused = λ other line also asks given refused.
-      inl (ap Ran (refused_of other line s text told asks given refused (moved frame request other s text told requests also status)));
+      inl (ap Ran (refused_of printed other line s text told asks given refused (moved printed frame request other s text told requests also status)));
   accepted = λ other line also asks given accepted.
-      inl (accepted_of other line s text told asks given accepted (moved frame request other s text told requests also status));
+      inl (accepted_of printed other line s text told asks given accepted (moved printed frame request other s text told requests also status));
 }
 
 decided_memory : (frame : Frame) → IsDecided frame (Ran NoMemory)
@@ -136,14 +136,14 @@ decided_memory frame = record {
   accepted = λ request line requests asks given accepted. inr refl;
 }
 
-decided_run : (frame : Frame) (s : Status) (text told : List ℕ) → IsRunOf frame s text told → IsDecided frame (Ran s)
-decided_run frame Done text told (request, requests, status) = decided_status frame request Done text told requests status
-decided_run frame Rejected text told (request, requests, status) = decided_status frame request Rejected text told requests status
-decided_run frame Usage text told (request, requests, status) = decided_status frame request Usage text told requests status
-decided_run frame ReadFault text told (request, requests, status) = decided_status frame request ReadFault text told requests status
-decided_run frame Refused text told (request, requests, status) = decided_status frame request Refused text told requests status
-decided_run frame WriteFault text told (request, requests, status) = absurd status
-decided_run frame NoMemory text told memory = decided_memory frame
+decided_run : (printed : Printed) (frame : Frame) (s : Status) (text told : List ℕ) → IsRunOf printed frame s text told → IsDecided frame (Ran s)
+decided_run printed frame Done text told (request, requests, status) = decided_status printed frame request Done text told requests status
+decided_run printed frame Rejected text told (request, requests, status) = decided_status printed frame request Rejected text told requests status
+decided_run printed frame Usage text told (request, requests, status) = decided_status printed frame request Usage text told requests status
+decided_run printed frame ReadFault text told (request, requests, status) = decided_status printed frame request ReadFault text told requests status
+decided_run printed frame Refused text told (request, requests, status) = decided_status printed frame request Refused text told requests status
+decided_run printed frame WriteFault text told (request, requests, status) = absurd status
+decided_run printed frame NoMemory text told memory = decided_memory frame
 
 decided_no_text : (frame : Frame) (request : Request) → request_in frame ≡ Some request → (IsText request → ⊥) → IsDecided frame NoText
 decided_no_text frame request is no_text =
@@ -185,8 +185,8 @@ decided_many frame request requests many =
     }
 
 -- the frame decides the ending, by the causes of the endings
-pub decided : (frame : Frame) (ending : Ending) (text told : List ℕ) → IsEndingOf frame ending text told → IsDecided frame ending
-decided frame (Ran s) text told run = decided_run frame s text told run
-decided frame NoText text told (none, silent, quiet) = decided_no_text frame none.request none.held none.no_text
-decided frame Malformed text told (inl none, silent, quiet) = decided_none frame none
-decided frame Malformed text told (inr (request, requests, many), silent, quiet) = decided_many frame request requests many
+pub decided : (printed : Printed) (frame : Frame) (ending : Ending) (text told : List ℕ) → IsEndingOf printed frame ending text told → IsDecided frame ending
+decided printed frame (Ran s) text told run = decided_run printed frame s text told run
+decided printed frame NoText text told (none, silent, quiet) = decided_no_text frame none.request none.held none.no_text
+decided printed frame Malformed text told (inl none, silent, quiet) = decided_none frame none
+decided printed frame Malformed text told (inr (request, requests, many), silent, quiet) = decided_many frame request requests many

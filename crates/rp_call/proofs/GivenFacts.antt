@@ -4,9 +4,10 @@ use Rattle.rp_outside.specs.Files.{bytes_under}
 use Rattle.rp_outside.specs.Known.{AreAll}
 use Rattle.rp_command_line.specs.CommandLine.{Line, file_at, files_of}
 use Rattle.rp_command_line.specs.Words.{denoted_line}
+use Rattle.rp_answers.specs.Printed.{Printed}
 use Rattle.rp_answers.specs.declared.status.Status.{Status}
 use Rattle.rp_answers.specs.declared.status.Status.TheVariants.{Done, Rejected, Usage, ReadFault, Refused, WriteFault, NoMemory}
-use Rattle.rp_run.specs.Answers.{AnswersLine, AreContents, RefusesWith}
+use Rattle.rp_run.specs.Answers.{AnswersLineBy, AreContents, RefusesWith}
 use Rattle.rp_frame.specs.Frames.{Frame, Request, request_in}
 use Rattle.rp_frame.specs.Handed.{Holds, IsText}
 use Rattle.rp_frame.specs.declared.handed.Handed.{Handed}
@@ -37,60 +38,60 @@ given_contents : (files : NamedFiles) (line : Line) (bytes : ℕ → List ℕ) �
     → AreContents (bytes_under files) line bytes
 given_contents files line bytes are k within = given_all (bytes_under files (file_at line k)) (bytes k) (are k within)
 
-given_answer : (files : NamedFiles) (line : Line) (s : Status) (text : List ℕ) → AnswersLine (known_in files) line s text
-    → AnswersLine (bytes_under files) line s text
-given_answer files line s text answers =
+given_answer : (printed : Printed) (files : NamedFiles) (line : Line) (s : Status) (text : List ℕ) → AnswersLineBy printed (known_in files) line s text
+    → AnswersLineBy printed (bytes_under files) line s text
+given_answer printed files line s text answers =
     (answers.0, (answers.1.0, given_contents files line answers.1.0 answers.1.1, answers.1.2, answers.1.3), answers.2)
 
 given_refusal : (files : NamedFiles) (line : Line) (text : List ℕ) → RefusesWith (known_in files) line text → RefusesWith (bytes_under files) line text
 given_refusal files line text refuses = (refuses.0, given_contents files line refuses.0 refuses.1, refuses.2)
 
 -- the status of a request is that of the run over its files, where each file of its line is given and no more are
-status_of_run : (request : Request) (s : Status) (text told : List ℕ)
+status_of_run : (printed : Printed) (request : Request) (s : Status) (text told : List ℕ)
     → ((line : Line) → asked_of request ≡ Some line → IsWhole request.files line)
-    → IsRun (known_in request.files) (asked_of request) s text told → IsStatusOf request s text told
-status_of_run request Done text told whole run = record {
+    → IsRun printed (known_in request.files) (asked_of request) s text told → IsStatusOf printed request s text told
+status_of_run printed request Done text told whole run = record {
   line = run.line;
   asks = record { asked = run.asked; few = (whole run.line run.asked).0 };
   given = (whole run.line run.asked).1;
-  answers = given_answer request.files run.line Done text run.answers;
+  answers = given_answer printed request.files run.line Done text run.answers;
   quiet = run.quiet;
 }
-status_of_run request Rejected text told whole run = record {
+status_of_run printed request Rejected text told whole run = record {
   line = run.line;
   asks = record { asked = run.asked; few = (whole run.line run.asked).0 };
   given = (whole run.line run.asked).1;
-  answers = given_answer request.files run.line Rejected text run.answers;
+  answers = given_answer printed request.files run.line Rejected text run.answers;
   quiet = run.quiet;
 }
-status_of_run request Usage text told whole run = record { no_line = run.no_line; silent = run.silent; tells = run.tells }
-status_of_run request ReadFault text told whole run = absurd run
-status_of_run request Refused text told whole run = record {
+status_of_run printed request Usage text told whole run = record { no_line = run.no_line; silent = run.silent; tells = run.tells }
+status_of_run printed request ReadFault text told whole run = absurd run
+status_of_run printed request Refused text told whole run = record {
   line = run.line;
   asks = record { asked = run.asked; few = (whole run.line run.asked).0 };
   given = (whole run.line run.asked).1;
   silent = run.silent;
   refuses = given_refusal request.files run.line told run.refuses;
 }
-status_of_run request WriteFault text told whole run = absurd run
-status_of_run request NoMemory text told whole run = absurd run
+status_of_run printed request WriteFault text told whole run = absurd run
+status_of_run printed request NoMemory text told whole run = absurd run
 
-ended_as_run : (request : Request) (ending : Ending) (text told : List ℕ)
+ended_as_run : (printed : Printed) (request : Request) (ending : Ending) (text told : List ℕ)
     → ((line : Line) → asked_of request ≡ Some line → IsWhole request.files line)
-    → EndsAsRun (known_in request.files) (asked_of request) ending text told → IsEnded request ending text told
-ended_as_run request (Ran s) text told whole run = status_of_run request s text told whole run
-ended_as_run request NoText text told whole run = absurd run
-ended_as_run request Malformed text told whole run = absurd run
+    → EndsAsRun printed (known_in request.files) (asked_of request) ending text told → IsEnded printed request ending text told
+ended_as_run printed request (Ran s) text told whole run = status_of_run printed request s text told whole run
+ended_as_run printed request NoText text told whole run = absurd run
+ended_as_run printed request Malformed text told whole run = absurd run
 
-run_ends : (words : List (List ℕ)) (files : NamedFiles) (ending : Ending) (text told : List ℕ)
+run_ends : (printed : Printed) (words : List (List ℕ)) (files : NamedFiles) (ending : Ending) (text told : List ℕ)
     → ((line : Line) → denoted_line words ≡ Some line → IsWhole files line)
-    → EndsAsRun (known_in files) (denoted_line words) ending text told → EndsFor words files ending text told
-run_ends words files ending text told whole run = record {
+    → EndsAsRun printed (known_in files) (denoted_line words) ending text told → EndsFor printed words files ending text told
+run_ends printed words files ending text told whole run = record {
   ended = λ request same also.
-      ended_as_run request ending text told
+      ended_as_run printed request ending text told
       (λ line asked. subst (λ (given : NamedFiles). IsWhole given line) also (whole line (ap denoted_line same ∙ asked)))
-      (subst (λ (said : List (List ℕ)). EndsAsRun (known_in request.files) (denoted_line said) ending text told) same
-      (subst (λ (given : NamedFiles). EndsAsRun (known_in given) (denoted_line words) ending text told) also run));
+      (subst (λ (said : List (List ℕ)). EndsAsRun printed (known_in request.files) (denoted_line said) ending text told) same
+      (subst (λ (given : NamedFiles). EndsAsRun printed (known_in given) (denoted_line words) ending text told) also run));
 }
 
 asked_apart : (words : List (List ℕ)) (line : Line) → denoted_line words ≡ None → denoted_line words ≡ Some line → ⊥
@@ -100,21 +101,21 @@ same_line : (words : List (List ℕ)) (line other : Line) → denoted_line words
 same_line words line other is also = cc
 
 -- a line of which each file is given, and no more are, ends as its run
-pub line_ends : (words : List (List ℕ)) (files : NamedFiles) (line : Line) {E : Type 0} (result : Result Texts E) → denoted_line words ≡ Some line
+pub line_ends : (printed : Printed) (words : List (List ℕ)) (files : NamedFiles) (line : Line) {E : Type 0} (result : Result Texts E) → denoted_line words ≡ Some line
     → length files ≤ length (files_of line) → AreGiven files (files_of line)
-    → IfOk result (λ texts. EndsAsRun (known_in files) (denoted_line words) texts.ending texts.output.items texts.told.items)
-    → IfOk result (λ texts. EndsFor words files texts.ending texts.output.items texts.told.items)
-line_ends words files line (Ok texts) asked few given run =
-    run_ends words files texts.ending texts.output.items texts.told.items
+    → IfOk result (λ texts. EndsAsRun printed (known_in files) (denoted_line words) texts.ending texts.output.items texts.told.items)
+    → IfOk result (λ texts. EndsFor printed words files texts.ending texts.output.items texts.told.items)
+line_ends printed words files line (Ok texts) asked few given run =
+    run_ends printed words files texts.ending texts.output.items texts.told.items
     (λ other is. subst (λ (l : Line). IsWhole files l) (same_line words line other asked is) (few, given)) run
-line_ends words files line (Err e) asked few given run = run
+line_ends printed words files line (Err e) asked few given run = run
 
 -- a line of which more files are given than it names is malformed
-pub many_ends : (words : List (List ℕ)) (files : NamedFiles) (line : Line) (ending : Ending) (text told : List ℕ) → denoted_line words ≡ Some line
-    → length (files_of line) < length files → ending ≡ Malformed → text ≡ [] → told ≡ [] → EndsFor words files ending text told
-many_ends words files line ending text told asked many is silent quiet = record {
+pub many_ends : (printed : Printed) (words : List (List ℕ)) (files : NamedFiles) (line : Line) (ending : Ending) (text told : List ℕ) → denoted_line words ≡ Some line
+    → length (files_of line) < length files → ending ≡ Malformed → text ≡ [] → told ≡ [] → EndsFor printed words files ending text told
+many_ends printed words files line ending text told asked many is silent quiet = record {
   ended = λ request same also.
-      subst (λ (e : Ending). IsEnded request e text told) (sym is) (
+      subst (λ (e : Ending). IsEnded printed request e text told) (sym is) (
         record {
           line = line;
           asked = ap denoted_line (sym same) ∙ asked;
@@ -125,12 +126,12 @@ many_ends words files line ending text told asked many is silent quiet = record 
       );
 }
 
-unread_ended : (words : List (List ℕ)) (files : NamedFiles) (line : Line) (k : ℕ) (ending : Ending) (text told : List ℕ) → denoted_line words ≡ Some line
+unread_ended : (printed : Printed) (words : List (List ℕ)) (files : NamedFiles) (line : Line) (k : ℕ) (ending : Ending) (text told : List ℕ) → denoted_line words ≡ Some line
     → length files ≤ length (files_of line) → IsFirstMissing files (files_of line) k → TellsUnread (file_at line k) ending text told
-    → EndsFor words files ending text told
-unread_ended words files line k ending text told asked few first unread = record {
+    → EndsFor printed words files ending text told
+unread_ended printed words files line k ending text told asked few first unread = record {
   ended = λ request same also.
-      subst (λ (e : Ending). IsEnded request e text told) (sym unread.ends) (record {
+      subst (λ (e : Ending). IsEnded printed request e text told) (sym unread.ends) (record {
         line = line;
         asks = record {
           asked = ap denoted_line (sym same) ∙ asked;
@@ -144,37 +145,37 @@ unread_ended words files line k ending text told asked few first unread = record
 }
 
 -- a line of which a file is not given tells the first such one
-pub unread_ends : (words : List (List ℕ)) (files : NamedFiles) (line : Line) (k : ℕ) {E : Type 0} (result : Result Texts E) → denoted_line words ≡ Some line
+pub unread_ends : (printed : Printed) (words : List (List ℕ)) (files : NamedFiles) (line : Line) (k : ℕ) {E : Type 0} (result : Result Texts E) → denoted_line words ≡ Some line
     → length files ≤ length (files_of line) → IsFirstMissing files (files_of line) k
     → IfOk result (λ texts. TellsUnread (file_at line k) texts.ending texts.output.items texts.told.items)
-    → IfOk result (λ texts. EndsFor words files texts.ending texts.output.items texts.told.items)
-unread_ends words files line k (Ok texts) asked few first unread =
-    unread_ended words files line k texts.ending texts.output.items texts.told.items asked few first unread
-unread_ends words files line k (Err e) asked few first unread = unread
+    → IfOk result (λ texts. EndsFor printed words files texts.ending texts.output.items texts.told.items)
+unread_ends printed words files line k (Ok texts) asked few first unread =
+    unread_ended printed words files line k texts.ending texts.output.items texts.told.items asked few first unread
+unread_ends printed words files line k (Err e) asked few first unread = unread
 
 -- the status of a frame's request is that of the call
-status_runs : (frame : Frame) (request : Request) (s : Status) (text told : List ℕ) → Requests frame request → IsStatusOf request s text told
-    → IsRunOf frame s text told
-status_runs frame request Done text told requests status = (request, requests, status)
-status_runs frame request Rejected text told requests status = (request, requests, status)
-status_runs frame request Usage text told requests status = (request, requests, status)
-status_runs frame request ReadFault text told requests status = (request, requests, status)
-status_runs frame request Refused text told requests status = (request, requests, status)
-status_runs frame request WriteFault text told requests status = absurd status
-status_runs frame request NoMemory text told requests status = absurd status
+status_runs : (printed : Printed) (frame : Frame) (request : Request) (s : Status) (text told : List ℕ) → Requests frame request → IsStatusOf printed request s text told
+    → IsRunOf printed frame s text told
+status_runs printed frame request Done text told requests status = (request, requests, status)
+status_runs printed frame request Rejected text told requests status = (request, requests, status)
+status_runs printed frame request Usage text told requests status = (request, requests, status)
+status_runs printed frame request ReadFault text told requests status = (request, requests, status)
+status_runs printed frame request Refused text told requests status = (request, requests, status)
+status_runs printed frame request WriteFault text told requests status = absurd status
+status_runs printed frame request NoMemory text told requests status = absurd status
 
-request_ends : (frame : Frame) (request : Request) (ending : Ending) (text told : List ℕ) → Requests frame request → IsEnded request ending text told
-    → IsEndingOf frame ending text told
-request_ends frame request (Ran s) text told requests ended = status_runs frame request s text told requests ended
-request_ends frame request NoText text told requests ended = absurd ended
-request_ends frame request Malformed text told requests (many, silent, quiet) = (inr (request, requests, many), silent, quiet)
+request_ends : (printed : Printed) (frame : Frame) (request : Request) (ending : Ending) (text told : List ℕ) → Requests frame request → IsEnded printed request ending text told
+    → IsEndingOf printed frame ending text told
+request_ends printed frame request (Ran s) text told requests ended = status_runs printed frame request s text told requests ended
+request_ends printed frame request NoText text told requests ended = absurd ended
+request_ends printed frame request Malformed text told requests (many, silent, quiet) = (inr (request, requests, many), silent, quiet)
 
 -- a frame ends as what was read of it
-pub frame_ends : (frame : Frame) (handed : Handed) {E : Type 0} (result : Result Texts E)
+pub frame_ends : (printed : Printed) (frame : Frame) (handed : Handed) {E : Type 0} (result : Result Texts E)
     → (request : Request) × Holds handed request × IsText request × (request_in frame ≡ Some request)
-    → IfOk result (λ texts. EndsFor (map string_bytes handed.words.items) (map named_bytes handed.files.items) texts.ending texts.output.items texts.told.items)
-    → IfOk result (λ texts. IsEndingOf frame texts.ending texts.output.items texts.told.items)
-frame_ends frame handed (Ok texts) (request, holds, text, held) ends =
-    request_ends frame request texts.ending texts.output.items texts.told.items (record { held = held; text = text })
+    → IfOk result (λ texts. EndsFor printed (map string_bytes handed.words.items) (map named_bytes handed.files.items) texts.ending texts.output.items texts.told.items)
+    → IfOk result (λ texts. IsEndingOf printed frame texts.ending texts.output.items texts.told.items)
+frame_ends printed frame handed (Ok texts) (request, holds, text, held) ends =
+    request_ends printed frame request texts.ending texts.output.items texts.told.items (record { held = held; text = text })
     (ends.ended request holds.words holds.files)
-frame_ends frame handed (Err e) read ends = ends
+frame_ends printed frame handed (Err e) read ends = ends

@@ -1,3 +1,4 @@
 mod DecidedFacts
 mod GivenFacts
+mod NamingFacts
 mod RunFacts

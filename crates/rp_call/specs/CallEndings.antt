@@ -1,4 +1,5 @@
--- How a call over files in memory ends. Its frame alone decides, but for want of memory (this program's own statuses).
+-- How a call over files in memory ends, by an edition of the program, which prints so. The frame alone decides it, but
+-- for want of memory (this program's own statuses).
 use Rattle.std.specs.Prelude.{◌≡◌, ◌≢◌, ◌⊎◌, ◌<◌, ◌≤◌, ℕ, List, [], ◌∷◌, Option, Some, None, codes, length}
 use Rattle.std.specs.Prelude.{slice_index_or}
 use Rattle.rp_frame.specs.Frames.{Frame, Request, request_in}
@@ -7,10 +8,10 @@ use Rattle.rp_frame.specs.Rooms.{filled}
 use Rattle.rp_outside.specs.Files.{bytes_under}
 use Rattle.rp_command_line.specs.CommandLine.{Line, file_at, files_of}
 use Rattle.rp_command_line.specs.Words.{denoted_line}
-use Rattle.rp_command_line.specs.Usage.{usage_text}
-use Rattle.rp_run.specs.Answers.{AnswersLine, Files, IsAccepted, IsRefused, RefusesWith}
+use Rattle.rp_run.specs.Answers.{AnswersLineBy, Files, IsAccepted, IsRefused, RefusesWith}
 use Rattle.rp_run.specs.Endings.{IsEnd}
 use Rattle.rp_run.specs.FaultLines.{memory_line, read_line}
+use Rattle.rp_answers.specs.Printed.{Printed, as_stated}
 use Rattle.rp_answers.specs.StatusNumbers.{status_number}
 use Rattle.rp_answers.specs.declared.status.Status.{Status}
 use Rattle.rp_answers.specs.declared.status.Status.TheVariants.{Done, Rejected, Usage, ReadFault, Refused, WriteFault}
@@ -42,18 +43,18 @@ pub record Asks (request : Request) (line : Line) : Type 0 where
   pub few : length request.files ≤ length (files_of line)
 
 -- the line of a request is answered: the whole text is written, and nothing is told
-pub record IsAnswered (request : Request) (status : Status) (text told : List ℕ) : Type 0 where
+pub record IsAnswered (printed : Printed) (request : Request) (status : Status) (text told : List ℕ) : Type 0 where
   pub line : Line
   pub asks : Asks request line
   pub given : AreGiven request.files (files_of line)
-  pub answers : AnswersLine (given_files request) line status text
+  pub answers : AnswersLineBy printed (given_files request) line status text
   pub quiet : told ≡ []
 
--- the words of a request are no line
-pub record IsUsage (request : Request) (text told : List ℕ) : Type 0 where
+-- the words of a request are no line, and the usage is told
+pub record IsUsage (printed : Printed) (request : Request) (text told : List ℕ) : Type 0 where
   pub no_line : asked_of request ≡ None
   pub silent : text ≡ []
-  pub tells : told ≡ usage_text
+  pub tells : told ≡ printed.usage
 
 -- a file of the line is not given, and the first such one is told
 pub record IsUnread (request : Request) (text told : List ℕ) : Type 0 where
@@ -73,14 +74,14 @@ pub record IsRefusal (request : Request) (text told : List ℕ) : Type 0 where
   pub refuses : RefusesWith (given_files request) line told
 
 -- a status of a request, with what is written and what is told: its cause holds
-abbrev pub IsStatusOf : Request → Status → List ℕ → List ℕ → Type 0
-IsStatusOf request Done text told = IsAnswered request Done text told
-IsStatusOf request Rejected text told = IsAnswered request Rejected text told
-IsStatusOf request Usage text told = IsUsage request text told
-IsStatusOf request ReadFault text told = IsUnread request text told
-IsStatusOf request Refused text told = IsRefusal request text told
-IsStatusOf request WriteFault text told = ⊥
-IsStatusOf request NoMemory text told = ⊥
+abbrev pub IsStatusOf : Printed → Request → Status → List ℕ → List ℕ → Type 0
+IsStatusOf printed request Done text told = IsAnswered printed request Done text told
+IsStatusOf printed request Rejected text told = IsAnswered printed request Rejected text told
+IsStatusOf printed request Usage text told = IsUsage printed request text told
+IsStatusOf printed request ReadFault text told = IsUnread request text told
+IsStatusOf printed request Refused text told = IsRefusal request text told
+IsStatusOf printed request WriteFault text told = ⊥
+IsStatusOf printed request NoMemory text told = ⊥
 
 -- more files are given than the line of the words names
 pub record HasTooMany (request : Request) : Type 0 where
@@ -99,9 +100,10 @@ pub record IsOutOfMemory (text told : List ℕ) : Type 0 where
   pub tells : told ≡ memory_line
 
 -- the status of a call that was run: memory ran out, or it is that of the frame's request
-abbrev pub IsRunOf : Frame → Status → List ℕ → List ℕ → Type 0
-IsRunOf frame NoMemory text told = IsOutOfMemory text told
-IsRunOf frame status text told = (request : Request) × Requests frame request × IsStatusOf request status text told
+abbrev pub IsRunOf : Printed → Frame → Status → List ℕ → List ℕ → Type 0
+IsRunOf printed frame NoMemory text told = IsOutOfMemory text told
+IsRunOf printed frame status text told =
+    (request : Request) × Requests frame request × IsStatusOf printed request status text told
 
 -- a word of the frame's request, or a name of a file, is no text
 pub record HasNoText (frame : Frame) : Type 0 where
@@ -115,28 +117,32 @@ IsMalformed frame =
     (request_in frame ≡ None) ⊎ ((request : Request) × Requests frame request × HasTooMany request)
 
 -- how a call ends, with what is written and what is told
-abbrev pub IsEndingOf : Frame → Ending → List ℕ → List ℕ → Type 0
-IsEndingOf frame (Ran status) text told = IsRunOf frame status text told
-IsEndingOf frame NoText text told = HasNoText frame × (text ≡ []) × (told ≡ [])
-IsEndingOf frame Malformed text told = IsMalformed frame × (text ≡ []) × (told ≡ [])
+abbrev pub IsEndingOf : Printed → Frame → Ending → List ℕ → List ℕ → Type 0
+IsEndingOf printed frame (Ran status) text told = IsRunOf printed frame status text told
+IsEndingOf printed frame NoText text told = HasNoText frame × (text ≡ []) × (told ≡ [])
+IsEndingOf printed frame Malformed text told = IsMalformed frame × (text ≡ []) × (told ≡ [])
 
 -- an ending of words and files that were read, with what is written and what is told
-abbrev pub IsEnded : Request → Ending → List ℕ → List ℕ → Type 0
-IsEnded request (Ran status) text told = IsStatusOf request status text told
-IsEnded request NoText text told = ⊥
-IsEnded request Malformed text told = HasTooMany request × (text ≡ []) × (told ≡ [])
+abbrev pub IsEnded : Printed → Request → Ending → List ℕ → List ℕ → Type 0
+IsEnded printed request (Ran status) text told = IsStatusOf printed request status text told
+IsEnded printed request NoText text told = ⊥
+IsEnded printed request Malformed text told = HasTooMany request × (text ≡ []) × (told ≡ [])
 
 -- a call ends so: the texts of its ending stand at the front of the caller's rooms, as much of each as has place, and
 -- the two numbers tell how long the texts are
-pub record EndsSo (frame : Frame) (ending : Ending) (output_old output_new : List ℕ) (output_length : ℕ)
-    (told_old told_new : List ℕ) (told_length : ℕ) : Type 0 where
+pub record EndsSoBy (printed : Printed) (frame : Frame) (ending : Ending) (output_old output_new : List ℕ)
+    (output_length : ℕ) (told_old told_new : List ℕ) (told_length : ℕ) : Type 0 where
   pub text : List ℕ
   pub told : List ℕ
-  pub ends : IsEndingOf frame ending text told
+  pub ends : IsEndingOf printed frame ending text told
   pub output_kept : output_new ≡ filled output_old text
   pub output_counted : output_length ≡ length text
   pub told_kept : told_new ≡ filled told_old told
   pub told_counted : told_length ≡ length told
+
+-- the same where all is printed as it stands
+abbrev pub EndsSo : Frame → Ending → List ℕ → List ℕ → ℕ → List ℕ → List ℕ → ℕ → Type 0
+EndsSo = EndsSoBy as_stated
 
 -- an ending, or want of memory
 abbrev pub OrNoMemory : Ending → Ending → Type 0

@@ -1,2 +1,3 @@
 pub mod CallEndings
+pub mod NamedFiles
 pub mod RunEndings

@@ -1,14 +1,15 @@
--- How a run over files in memory ends, in the shape that a call takes it on (for the functions between).
+-- How a run over files in memory ends, by an edition of the program, in the shape that a call takes it on (for the
+-- functions between).
 use Rattle.std.specs.Prelude.{◌≡◌, List, [], ◌∷◌, ℕ, Option, Some, None, codes, unwrap_or}
 use Rattle.rp_outside.specs.Files.{bytes_under}
 use Rattle.rp_command_line.specs.CommandLine.{Line}
-use Rattle.rp_command_line.specs.Usage.{usage_text}
-use Rattle.rp_run.specs.Answers.{AnswersLine, Files, RefusesWith}
+use Rattle.rp_run.specs.Answers.{AnswersLineBy, Files, RefusesWith}
 use Rattle.rp_run.specs.FaultLines.{read_line}
 use Rattle.rp_frame.specs.Frames.{Request}
 use Rattle.rp_call.specs.CallEndings.{IsEnded}
 use Rattle.rp_call.specs.declared.ending.Ending.{Ending}
 use Rattle.rp_call.specs.declared.ending.Ending.TheVariants.{Ran, NoText, Malformed}
+use Rattle.rp_answers.specs.Printed.{Printed}
 use Rattle.rp_answers.specs.declared.status.Status.{Status}
 use Rattle.rp_answers.specs.declared.status.Status.TheVariants.{Done, Rejected, Usage, ReadFault, Refused, WriteFault}
 use Rattle.rp_answers.specs.declared.status.Status.TheVariants.{NoMemory}
@@ -18,17 +19,18 @@ abbrev pub known_in : List (List ℕ × List ℕ) → Files
 known_in files name = Some (unwrap_or (bytes_under files name) [])
 
 -- a line is answered, and nothing is told
-pub record RunAnswers (files : Files) (denoted : Option Line) (status : Status) (text told : List ℕ) : Type 0 where
+pub record RunAnswers (printed : Printed) (files : Files) (denoted : Option Line) (status : Status) (text told : List ℕ)
+    : Type 0 where
   pub line : Line
   pub asked : denoted ≡ Some line
-  pub answers : AnswersLine files line status text
+  pub answers : AnswersLineBy printed files line status text
   pub quiet : told ≡ []
 
 -- words that are no line
-pub record RunTellsUsage (denoted : Option Line) (text told : List ℕ) : Type 0 where
+pub record RunTellsUsage (printed : Printed) (denoted : Option Line) (text told : List ℕ) : Type 0 where
   pub no_line : denoted ≡ None
   pub silent : text ≡ []
-  pub tells : told ≡ usage_text
+  pub tells : told ≡ printed.usage
 
 -- a line is refused
 pub record RunRefuses (files : Files) (denoted : Option Line) (text told : List ℕ) : Type 0 where
@@ -38,20 +40,20 @@ pub record RunRefuses (files : Files) (denoted : Option Line) (text told : List 
   pub refuses : RefusesWith files line told
 
 -- what a run wrote and told, by its status; memory did not run out
-abbrev pub IsRun : Files → Option Line → Status → List ℕ → List ℕ → Type 0
-IsRun files denoted Done text told = RunAnswers files denoted Done text told
-IsRun files denoted Rejected text told = RunAnswers files denoted Rejected text told
-IsRun files denoted Usage text told = RunTellsUsage denoted text told
-IsRun files denoted ReadFault text told = ⊥
-IsRun files denoted Refused text told = RunRefuses files denoted text told
-IsRun files denoted WriteFault text told = ⊥
-IsRun files denoted NoMemory text told = ⊥
+abbrev pub IsRun : Printed → Files → Option Line → Status → List ℕ → List ℕ → Type 0
+IsRun printed files denoted Done text told = RunAnswers printed files denoted Done text told
+IsRun printed files denoted Rejected text told = RunAnswers printed files denoted Rejected text told
+IsRun printed files denoted Usage text told = RunTellsUsage printed denoted text told
+IsRun printed files denoted ReadFault text told = ⊥
+IsRun printed files denoted Refused text told = RunRefuses files denoted text told
+IsRun printed files denoted WriteFault text told = ⊥
+IsRun printed files denoted NoMemory text told = ⊥
 
 -- a call ends as a run
-abbrev pub EndsAsRun : Files → Option Line → Ending → List ℕ → List ℕ → Type 0
-EndsAsRun files denoted (Ran status) text told = IsRun files denoted status text told
-EndsAsRun files denoted NoText text told = ⊥
-EndsAsRun files denoted Malformed text told = ⊥
+abbrev pub EndsAsRun : Printed → Files → Option Line → Ending → List ℕ → List ℕ → Type 0
+EndsAsRun printed files denoted (Ran status) text told = IsRun printed files denoted status text told
+EndsAsRun printed files denoted NoText text told = ⊥
+EndsAsRun printed files denoted Malformed text told = ⊥
 
 -- a file is told not to be given
 pub record TellsUnread (file : List ℕ) (ending : Ending) (text told : List ℕ) : Type 0 where
@@ -60,7 +62,7 @@ pub record TellsUnread (file : List ℕ) (ending : Ending) (text told : List ℕ
   pub tells : told ≡ read_line file
 
 -- an ending of these words and files, where a request has them
-pub record EndsFor (words : List (List ℕ)) (files : List (List ℕ × List ℕ)) (ending : Ending) (text told : List ℕ) : Type 0
-  where
-    pub ended : (request : Request) → words ≡ codes "rp" ∷ request.words → files ≡ request.files
-        → IsEnded request ending text told
+pub record EndsFor (printed : Printed) (words : List (List ℕ)) (files : List (List ℕ × List ℕ)) (ending : Ending)
+    (text told : List ℕ) : Type 0 where
+  pub ended : (request : Request) → words ≡ codes "rp" ∷ request.words → files ≡ request.files
+      → IsEnded printed request ending text told

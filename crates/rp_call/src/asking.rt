@@ -1,4 +1,4 @@
-//! What the words and files that were handed over end with.
+//! What the words and files that were handed over end with, by an edition of the program.
 ghost use Rattle.std.specs.Prelude.{◌≡◌, [], Some, IfOk, map, string_bytes};
 ghost use Rattle.rp_outside.specs.NamedFile.{named_bytes};
 ghost use Rattle.rp_command_line.specs.Named.{named_line};
@@ -8,6 +8,7 @@ ghost use Rattle.rp_call.specs.RunEndings.{EndsAsRun, EndsFor, TellsUnread, know
 use crate::ending::Ending;
 use crate::files::first_missing;
 use crate::running::run_over;
+use rp_answers::Edition;
 use rp_command_line::{Line, read_line};
 use rp_frame::Handed;
 use rp_num::NoMemory;
@@ -37,27 +38,27 @@ pub(crate) fn silent(alloc: Global, ending: Ending) -> Texts
 }
 
 /// The answer to words over files, or why there is none.
-pub(crate) fn answer_handed(alloc: Global, handed: Handed) -> Result<Texts, NoMemory>
-    ensures { IfOk result (λ texts. EndsFor
+pub(crate) fn answer_handed<P: Edition>(alloc: Global, handed: Handed) -> Result<Texts, NoMemory>
+    ensures { IfOk result (λ texts. EndsFor P.printed
         (map string_bytes handed.words.items) (map named_bytes handed.files.items)
         texts.ending texts.output.items texts.told.items) }
 {
     let Handed { words, files } = handed;
     match read_line(alloc, words.as_slice())? {
-        Some(line) => answer_line(alloc, &words, &line, files),
-        None => run_files(alloc, &words, files),
+        Some(line) => answer_line::<P>(alloc, &words, &line, files),
+        None => run_files::<P>(alloc, &words, files),
     }
 }
 
 /// The answer to a line over files. One that it names and that is not given is told before any file is looked at.
-fn answer_line(
+fn answer_line<P: Edition>(
     alloc: Global,
     words: &Vec<String>,
     line: &Line<'_>,
     files: Vec<MemFile>,
 ) -> Result<Texts, NoMemory>
     requires { line_in words.now.items ≡ Some (named_line line.now) }
-    ensures { IfOk result (λ texts. EndsFor
+    ensures { IfOk result (λ texts. EndsFor P.printed
         (map string_bytes words.now.items) (map named_bytes files.items)
         texts.ending texts.output.items texts.told.items) }
 {
@@ -67,17 +68,21 @@ fn answer_line(
     }
     match first_missing(names, files.as_slice()) {
         Some(place) => unread(alloc, names[place]),
-        None => run_files(alloc, words, files),
+        None => run_files::<P>(alloc, words, files),
     }
 }
 
 /// The answer of a run over files.
-fn run_files(alloc: Global, words: &Vec<String>, files: Vec<MemFile>) -> Result<Texts, NoMemory>
-    ensures { IfOk result (λ texts. EndsAsRun
+fn run_files<P: Edition>(
+    alloc: Global,
+    words: &Vec<String>,
+    files: Vec<MemFile>,
+) -> Result<Texts, NoMemory>
+    ensures { IfOk result (λ texts. EndsAsRun P.printed
         (known_in (map named_bytes files.items)) (line_in words.now.items)
         texts.ending texts.output.items texts.told.items) }
 {
-    let texts = run_over(alloc, words, files)?;
+    let texts = run_over::<P>(alloc, words, files)?;
     Ok(Texts {
         ending: Ending::Ran(texts.status),
         output: texts.output,

@@ -1,10 +1,11 @@
 //! The call.
 ghost use Rattle.std.specs.Prelude.{IfOk};
 ghost use Rattle.rp_frame.specs.Frames.{frame_of};
-ghost use Rattle.rp_call.specs.CallEndings.{EndsSo, IsDecided, IsEndingOf};
+ghost use Rattle.rp_call.specs.CallEndings.{EndsSo, EndsSoBy, IsDecided, IsEndingOf};
 
 use crate::asking::{Texts, answer_handed, silent};
 use crate::ending::Ending;
+use rp_answers::{AsStated, Edition};
 use rp_frame::{FrameFault, fill, read_frame};
 use rp_num::NoMemory;
 use rp_run::Status;
@@ -30,7 +31,36 @@ pub fn answer(
         output.old output.new output_length.new told.old told.new told_length.new }
     ensures decided { IsDecided (frame_of words.now names.now sizes.now bytes.now) result }
 {
-    match answer_frame(alloc, words, names, sizes, bytes) {
+    answer_edition::<AsStated>(
+        alloc,
+        words,
+        names,
+        sizes,
+        bytes,
+        output,
+        told,
+        output_length,
+        told_length,
+    )
+}
+
+/// The same by any edition of the program, whose texts these are.
+pub fn answer_edition<P: Edition>(
+    alloc: Global,
+    words: &[u8],
+    names: &[u8],
+    sizes: &[u64],
+    bytes: &[u8],
+    output: &mut [u8],
+    told: &mut [u8],
+    output_length: &mut u64,
+    told_length: &mut u64,
+) -> Ending
+    ensures ends { EndsSoBy P.printed (frame_of words.now names.now sizes.now bytes.now) result
+        output.old output.new output_length.new told.old told.new told_length.new }
+    ensures decided { IsDecided (frame_of words.now names.now sizes.now bytes.now) result }
+{
+    match answer_frame::<P>(alloc, words, names, sizes, bytes) {
         Ok(texts) => {
             fill(output, texts.output.as_slice(), output_length);
             fill(told, texts.told.as_slice(), told_length);
@@ -45,7 +75,7 @@ pub fn answer(
 }
 
 /// The answer to what a frame holds, or why there is none.
-fn answer_frame(
+fn answer_frame<P: Edition>(
     alloc: Global,
     words: &[u8],
     names: &[u8],
@@ -53,11 +83,11 @@ fn answer_frame(
     bytes: &[u8],
 ) -> Result<Texts, NoMemory>
     ensures { IfOk result (λ texts.
-        IsEndingOf (frame_of words.now names.now sizes.now bytes.now)
+        IsEndingOf P.printed (frame_of words.now names.now sizes.now bytes.now)
         texts.ending texts.output.items texts.told.items) }
 {
     match read_frame(alloc, words, names, sizes, bytes) {
-        Ok(handed) => answer_handed(alloc, handed),
+        Ok(handed) => answer_handed::<P>(alloc, handed),
         Err(FrameFault::Malformed) => Ok(silent(alloc, Ending::Malformed)),
         Err(FrameFault::NoText) => Ok(silent(alloc, Ending::NoText)),
         Err(FrameFault::NoMemory) => Err(NoMemory),

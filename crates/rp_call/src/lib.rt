@@ -6,7 +6,9 @@ mod asking;
 mod calling;
 mod ending;
 mod files;
+mod naming;
 mod running;
 
-pub use calling::answer;
+pub use calling::{answer, answer_edition};
 pub use ending::Ending;
+pub use naming::name_files;

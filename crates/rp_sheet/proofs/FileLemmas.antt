@@ -51,14 +51,11 @@ module _ {A : Type 0} (form : Form) (goods : List (List ℕ)) (value : List (Lis
   unfolding denoted_by
   first_denoted records = first_records form goods (λ rows. value (headers_of rows) (sheet_figures form rows)) records
 
-  -- what was read of a file without a fault makes what the file denotes
-  pub value_of_file : (all records : List (List (List ℕ))) (columns : Layout) (figures : List (List Decimal)) (sizes : List (List ℕ)) → records ≡ take (form.most + 2) all → IsReadFrom form goods records columns figures sizes
-      → denoted_by form goods value all ≡ Ok (value columns.headers figures)
-  value_of_file all records columns figures sizes first read =
-      of_read (λ h f _. denoted_by form goods value all ≡ Ok (value h f)) read (sym (ap (denoted_by form goods value) first ∙ first_denoted all) ∙ denoted_value records read.faultless)
-
-  pub fault_of_file : (all records : List (List (List ℕ))) (e : TableFault) → records ≡ take (form.most + 2) all → first_fault form goods records ≡ Some e → denoted_by form goods value all ≡ Err e
-  fault_of_file all records e first faulty = sym (ap (denoted_by form goods value) first ∙ first_denoted all) ∙ denoted_fault records e faulty
+  -- what was read of records without a fault makes what they denote
+  pub value_of_read : (records : List (List (List ℕ))) (columns : Layout) (figures : List (List Decimal)) (sizes : List (List ℕ)) → IsReadFrom form goods records columns figures sizes
+      → denoted_by form goods value records ≡ Ok (value columns.headers figures)
+  value_of_read records columns figures sizes read =
+      of_read (λ h f _. denoted_by form goods value records ≡ Ok (value h f)) read (denoted_value records read.faultless)
 
 -- a sheet under other names of its form and its goods
 pub read_from : (form kind : Form) (given goods : List (List ℕ)) (records : List (List (List ℕ))) (columns : Layout) (figures : List (List Decimal)) (sizes : List (List ℕ)) → form ≡ kind → given ≡ goods → columns.form ≡ form → columns.headers ≡ headers_of records

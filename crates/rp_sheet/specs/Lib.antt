@@ -2,6 +2,7 @@ pub mod Records
 pub mod Refusals
 pub mod Headers
 pub mod Fields
+pub mod Selections
 pub mod Sizes
 pub mod ChoiceCounts
 pub mod Chosen

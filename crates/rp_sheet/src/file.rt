@@ -48,6 +48,24 @@ pub trait FileKind {
         ensures fitting { IfOk result (fits self.now) };
 }
 
+/// Reads the records of a file of this kind: what it says, or its first fault.
+pub fn read_kind<K: FileKind>(
+    alloc: Global,
+    records: &Records,
+    kind: &K,
+) -> Result<K::Value, TableFault>
+    ensures denoted { IfOk result (λ value.
+        denoted_by (K.form kind.now) (K.goods kind.now) (K.value kind.now) records.now
+        ≡ Ok value) }
+    ensures refused { RefusedAs result
+        (denoted_by (K.form kind.now) (K.goods kind.now) (K.value kind.now) records.now) }
+    ensures fitting { IfOk result (K.fits kind.now) }
+{
+    let form = kind.form();
+    let sheet = read_sheet(alloc, &form, kind.goods(), records)?;
+    Ok(kind.make(alloc, &sheet)?)
+}
+
 /// Reads the bytes of a file of this kind: what it says, or its first fault. How many records are looked at for that,
 /// no clause says.
 pub fn read_file<K: FileKind>(alloc: Global, bytes: &[u8], kind: &K) -> Result<K::Value, TableFault>
@@ -61,6 +79,5 @@ pub fn read_file<K: FileKind>(alloc: Global, bytes: &[u8], kind: &K) -> Result<K
 {
     let form = kind.form();
     let records = Records::of(alloc, bytes, form.most as usize + 2)?;
-    let sheet = read_sheet(alloc, &form, kind.goods(), &records)?;
-    Ok(kind.make(alloc, &sheet)?)
+    read_kind(alloc, &records, kind)
 }

@@ -17,7 +17,7 @@ mod sizes;
 pub use columns::Columns;
 pub use fault::TableFault;
 pub use fields::NumberRecord;
-pub use file::{FileKind, read_file};
+pub use file::{FileKind, read_file, read_kind};
 pub use fixed_goods::check_goods;
 pub use goods::read_names;
 pub use headers::read_columns;

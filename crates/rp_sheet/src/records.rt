@@ -1,7 +1,8 @@
 //! The stage that splits bytes into records.
-ghost use Rattle.std.specs.Prelude.{◌≡◌, ◌+◌, ◌<◌, IfOk, length, take};
+ghost use Rattle.std.specs.Prelude.{◌≡◌, ◌+◌, ◌<◌, All, IfOk, length, take};
 ghost use Rattle.csv.specs.Records.{fields_of};
-ghost use Rattle.rp_sheet.specs.Records.{records_in, record_at};
+ghost use Rattle.rp_sheet.specs.Records.{records_in, record_at, selected_fields};
+ghost use Rattle.rp_sheet.specs.Selections.{selected_records};
 ghost use Rattle.rp_sheet.specs.Fields.{row_at};
 ghost use Rattle.rp_forms.specs.Texts.{text_at};
 
@@ -48,6 +49,27 @@ impl Records {
                 Ok(false) => return Ok(Records { records }),
                 Err(_) => return Err(NoMemory),
             }
+        }
+        Ok(Records { records })
+    }
+
+    /// The headers of these columns, and these records after the headers in these columns alone, from 0.
+    #[tactic(auto, unfolding(crate::specs::Selections::selected_records))]
+    pub fn selected(
+        &self,
+        alloc: Global,
+        rows: &[u32],
+        columns: &[usize],
+    ) -> Result<Records, NoMemory>
+        requires headers { 0 < length self.now }
+        requires there { All (λ t. t + 1 < length self.now) rows.now }
+        ensures { IfOk result (λ records. records
+            ≡ selected_records self.now rows.now columns.now) }
+    {
+        let mut records = Vec::new(alloc);
+        records.push(select_fields(alloc, &self.records[0], columns)?)?;
+        for t in rows {
+            records.push(select_fields(alloc, &self.records[*t as usize + 1], columns)?)?;
         }
         Ok(Records { records })
     }
@@ -100,4 +122,16 @@ fn field_of(row: &ByteRecord, c: usize) -> &[u8]
         Some(field) => field,
         None => b"",
     }
+}
+
+/// The fields of a record in these columns, from 0.
+fn select_fields(alloc: Global, row: &ByteRecord, columns: &[usize]) -> Result<ByteRecord, NoMemory>
+    ensures { IfOk result (λ selected. fields_of selected
+        ≡ selected_fields columns.now (fields_of row.now)) }
+{
+    let mut selected = ByteRecord::with_capacity(alloc, BYTES_AT_FIRST, FIELDS_AT_FIRST)?;
+    for c in columns {
+        selected.push_field(field_of(row, *c))?;
+    }
+    Ok(selected)
 }

@@ -16,4 +16,4 @@ pub use plain::plain_tables;
 pub use priced::priced_table;
 pub use prices::read_prices;
 pub use rp_sheet::TableFault;
-pub use tables::read_table;
+pub use tables::{read_table, read_table_of};

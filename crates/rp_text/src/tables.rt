@@ -3,14 +3,15 @@ ghost use Rattle.std.specs.Prelude.{◌≡◌, ◌≤◌, [], Ok, None, IfOk, If
 ghost use Rattle.rp_table.specs.Tables.{levels_given};
 ghost use Rattle.rp_limits.specs.declared.table.TheConstants.{LARGEST};
 ghost use Rattle.rp_text.specs.Denotation as Denotation;
-ghost use Rattle.rp_text.specs.Denotation.{table_in};
+ghost use Rattle.rp_text.specs.Denotation.{denoted_table, table_in};
 ghost use Rattle.rp_sheet.specs.Refusals.{RefusedAs};
 
 use crate::priced::priced_table;
 use rp_forms::Form;
 use rp_num::{NoMemory, Seq};
 use rp_sheet::{
-    Columns, FileKind, Sheet, TableFault, column_numbers, narrow, read_file, read_names,
+    Columns, FileKind, Records, Sheet, TableFault, column_numbers, narrow, read_file, read_kind,
+    read_names,
 };
 use rp_table::{Name, Table};
 use std::alloc::Global;
@@ -24,6 +25,15 @@ pub fn read_table(alloc: Global, bytes: &[u8]) -> Result<Table, TableFault>
     ensures refused { RefusedAs result (table_in bytes.now) }
 {
     read_file(alloc, bytes, &TableFile)
+}
+
+/// The same of records that are at hand: the first has the headers.
+#[tactic(auto, unfolding(crate::specs::Denotation::denoted_table))]
+pub fn read_table_of(alloc: Global, records: &Records) -> Result<Table, TableFault>
+    ensures denoted { IfOk result (λ table. denoted_table records.now ≡ Ok table) }
+    ensures refused { RefusedAs result (denoted_table records.now) }
+{
+    read_kind(alloc, records, &TableFile)
 }
 
 /// A table.

@@ -1,5 +1,6 @@
 //! Calls as these tests make them.
-use rp_call::{Ending, answer};
+use rp_call::{Ending, answer, answer_edition};
+use rp_run_wide::Filled;
 use std::alloc::Global;
 use std::test::Fail;
 
@@ -10,6 +11,13 @@ pub(crate) struct Call<'a> {
     pub(crate) names: &'a [u8],
     pub(crate) sizes: &'a [u64],
     pub(crate) texts: &'a [&'a str],
+}
+
+/// By which edition a call answers: that of `rp`, or that of `rp-wide`.
+#[derive(Clone, Copy)]
+pub(crate) enum By {
+    Stated,
+    Filled,
 }
 
 /// What a call gave: how it ended, what stands in the two rooms, and the two lengths.
@@ -27,6 +35,11 @@ pub(crate) const BEFORE: u8 = b'.';
 
 /// Makes a call with so much room for each of the two texts.
 pub(crate) fn made(alloc: Global, call: &Call<'_>, room: usize) -> Result<Given, Fail> {
+    made_by(alloc, By::Stated, call, room)
+}
+
+/// Makes a call by an edition.
+pub(crate) fn made_by(alloc: Global, by: By, call: &Call<'_>, room: usize) -> Result<Given, Fail> {
     let mut bytes = Vec::new(alloc);
     for text in call.texts {
         bytes.extend_from_slice(text.as_bytes())?;
@@ -35,17 +48,30 @@ pub(crate) fn made(alloc: Global, call: &Call<'_>, room: usize) -> Result<Given,
     let mut told = vec![in alloc; BEFORE; room]?;
     let mut output_length = 0;
     let mut told_length = 0;
-    let ending = answer(
-        alloc,
-        call.words,
-        call.names,
-        call.sizes,
-        bytes.as_slice(),
-        output.as_mut_slice(),
-        told.as_mut_slice(),
-        &mut output_length,
-        &mut told_length,
-    );
+    let ending = match by {
+        By::Stated => answer(
+            alloc,
+            call.words,
+            call.names,
+            call.sizes,
+            bytes.as_slice(),
+            output.as_mut_slice(),
+            told.as_mut_slice(),
+            &mut output_length,
+            &mut told_length,
+        ),
+        By::Filled => answer_edition::<Filled>(
+            alloc,
+            call.words,
+            call.names,
+            call.sizes,
+            bytes.as_slice(),
+            output.as_mut_slice(),
+            told.as_mut_slice(),
+            &mut output_length,
+            &mut told_length,
+        ),
+    };
     Ok(Given {
         ending,
         output,

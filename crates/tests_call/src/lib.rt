@@ -4,6 +4,10 @@
 #[cfg(test)]
 mod calls;
 #[cfg(test)]
+mod editions;
+#[cfg(test)]
 mod endings;
+#[cfg(test)]
+mod names;
 #[cfg(test)]
 mod rooms;

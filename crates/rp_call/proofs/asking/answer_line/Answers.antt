@@ -10,7 +10,7 @@ use Rattle.rp_call.proofs.GivenFacts.{line_ends, many_ends, no_name, unread_ends
 use Rattle.rp_call.proofs.asking.answer_line.Goals as goal
 
 pub returns-then-len-names : goal.returns-then-len-names
-returns-then-len-names c =
+returns-then-len-names g c =
     let line = named_line c.args.line.now in
     let files = map named_bytes c.args.files.items in
     let many : length (files_of line) < length files = omega (
@@ -22,11 +22,11 @@ returns-then-len-names c =
       length-map c.args.line.now.arguments.files.items (λ (file : Bor (List ℕ)). file.now),
       length-map c.args.files.items named_bytes,
     ) in
-    many_ends (map string_bytes c.args.words.now.items) files line c.silent.result.ending c.silent.result.output.items c.silent.result.told.items
+    many_ends g.P.Edition.printed (map string_bytes c.args.words.now.items) files line c.silent.result.ending c.silent.result.output.items c.silent.result.told.items
     c.requires many c.silent.ensures.ending c.silent.ensures.output c.silent.ensures.told
 
 pub returns-in-Some : goal.returns-in-Some
-returns-in-Some c =
+returns-in-Some g c =
     let line = named_line c.args.line.now in
     let files = map named_bytes c.args.files.items in
     let names = c.args.line.now.arguments.files.items in
@@ -45,11 +45,11 @@ returns-in-Some c =
     let named : (get_or c.as_slice-names.result.now place no_name).now ≡ file_at line place =
     ap (λ (all : List (Bor (List ℕ))). (get_or all place no_name).now) c.as_slice-names.ensures.value
     ∙ sym (get_or-map (λ (file : Bor (List ℕ)). file.now) names place no_name [] within) in
-    unread_ends (map string_bytes c.args.words.now.items) files line place c.unread.result c.requires few first
+    unread_ends g.P.Edition.printed (map string_bytes c.args.words.now.items) files line place c.unread.result c.requires few first
     (subst (λ (name : List ℕ). IfOk c.unread.result (λ texts. TellsUnread name texts.ending texts.output.items texts.told.items)) named c.unread.ensures)
 
 pub returns-in-None : goal.returns-in-None
-returns-in-None c =
+returns-in-None g c =
     let line = named_line c.args.line.now in
     let files = map named_bytes c.args.files.items in
     let few : length files ≤ length (files_of line) = omega (
@@ -62,4 +62,4 @@ returns-in-None c =
       length-map c.args.files.items named_bytes,
     ) in
     let given : AreGiven files (files_of line) = rw (c.as_slice.ensures.value, c.as_slice-names.ensures.value) at c.in-None.ensures.given in
-    line_ends (map string_bytes c.args.words.now.items) files line c.run_files.result c.requires few given c.run_files.ensures
+    line_ends g.P.Edition.printed (map string_bytes c.args.words.now.items) files line c.run_files.result c.requires few given c.run_files.ensures

@@ -6,12 +6,12 @@ use Rattle.rp_call.proofs.RunFacts.{ended_run}
 use Rattle.rp_call.proofs.running.run_over.Goals as goal
 
 pub returns : goal.returns
-returns c =
-    let run = c.run-status in
+returns g c =
+    let run = c.run_edition-status in
     let other : run.result ≡ NoMemory → ⊥ = λ is. (let wrong = rw is at c.if-eq.ensures in cc) in
     let out_took_all : run.new.out.faults ≡ 0 = omega (arith, c.faults.ensures, c.if-faults-gt0.false) in
     let err_took_all : run.new.err.faults ≡ 0 = omega (arith, c.faults-else-faults-gt0.ensures, c.if-faults-gt0-2.false) in
-    rw (c.into_bytes.ensures, c.into_bytes-2.ensures) (ended_run c.new-desk.result (map named_bytes c.args.files.items) (line_in c.args.words.now.items) run.result _
+    rw (c.into_bytes.ensures, c.into_bytes-2.ensures) (ended_run g.P.Edition.printed c.new-desk.result (map named_bytes c.args.files.items) (line_in c.args.words.now.items) run.result _
     c.new-out.result.written run.new.out.written c.new-err.result.written run.new.err.written
     c.new-out.result.faults run.new.out.faults c.new-err.result.faults run.new.err.faults
     c.new-desk.ensures.files c.new-out.ensures.written c.new-out.ensures.faults out_took_all

@@ -1,0 +1,11 @@
+use Rattle.rp_call.proofs.NamingFacts.{ended_all, ended_more}
+use Rattle.rp_call.proofs.naming.ended.Goals as goal
+
+pub loop-name-preserved : goal.loop-name-preserved
+loop-name-preserved c = record {
+  rest = ended_more c.args.names.now c.loop-name.name-index _ c.loop-name.text.items _ _ _ c.loop-name-test.true c.loop-name.invariant.rest
+      c.as_bytes.ensures.value c.in_ok-extend_from_slice.ensures.items c.in_ok-push.ensures.items;
+}
+
+pub returns : goal.returns
+returns c = ended_all c.args.names.now c.loop-name.name-index c.loop-name.text.items c.loop-name-test.false c.loop-name.invariant.rest

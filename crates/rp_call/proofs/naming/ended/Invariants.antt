@@ -1,0 +1,10 @@
+use Rattle.std.proofs.Common.{◌≡◌, ◌++◌, ℕ, List, drop, map}
+use Rattle.std.specs.Borrow.{Bor}
+use Rattle.rp_call.specs.NamedFiles.{ended_names}
+use Rattle.rp_call.proofs.naming.ended.Given as goal
+
+abbrev pub invariant-loop-name : goal.invariant-loop-name
+invariant-loop-name l = record {
+  rest :
+      l.text.items ++ ended_names (map (λ (name : Bor (List ℕ)). name.now) (drop l.name-index l.names)) ≡ ended_names (map (λ (name : Bor (List ℕ)). name.now) l.names);
+}

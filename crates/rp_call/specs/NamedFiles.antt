@@ -1,0 +1,59 @@
+-- What a call tells of the files that words name, with its cause (this program's own form).
+use Rattle.std.specs.Prelude.{◌≡◌, ◌++◌, ℕ, List, [], ◌∷◌, Option, Some, None, length}
+use Rattle.rp_frame.specs.Frames.{Frame, Request, frame_of, request_in}
+use Rattle.rp_frame.specs.Rooms.{filled}
+use Rattle.rp_command_line.specs.CommandLine.{Line, files_of}
+use Rattle.rp_answers.specs.declared.status.Status.TheVariants.{Done, Rejected, Usage, ReadFault, Refused, WriteFault}
+use Rattle.rp_answers.specs.declared.status.Status.TheVariants.{NoMemory}
+use Rattle.rp_call.specs.CallEndings.{HasNoText, Requests, asked_of}
+use Rattle.rp_call.specs.declared.ending.Ending.{Ending}
+use Rattle.rp_call.specs.declared.ending.Ending.TheVariants.{Ran, NoText, Malformed}
+
+-- names one after the other, each ended by a zero byte
+unfoldable pub ended_names : List (List ℕ) → List ℕ
+ended_names [] = []
+ended_names (name ∷ names) = name ++ 0 ∷ ended_names names
+
+-- the frame of words without files
+abbrev pub words_alone : List ℕ → Frame
+words_alone words = frame_of words [] [] []
+
+-- the words are a line, and the text is the names of its files in their order
+pub record NamesFiles (words text : List ℕ) : Type 0 where
+  pub request : Request
+  pub requests : Requests (words_alone words) request
+  pub line : Line
+  pub asked : asked_of request ≡ Some line
+  pub names : text ≡ ended_names (files_of line)
+
+-- the words are no line, and no name is told
+pub record NamesNothing (words text : List ℕ) : Type 0 where
+  pub request : Request
+  pub requests : Requests (words_alone words) request
+  pub no_line : asked_of request ≡ None
+  pub silent : text ≡ []
+
+-- how a call ends that tells the files of words, and the text of their names
+abbrev pub IsNamingOf : List ℕ → Ending → List ℕ → Type 0
+IsNamingOf words (Ran Done) text = NamesFiles words text
+IsNamingOf words (Ran Rejected) text = ⊥
+IsNamingOf words (Ran Usage) text = NamesNothing words text
+IsNamingOf words (Ran ReadFault) text = ⊥
+IsNamingOf words (Ran Refused) text = ⊥
+IsNamingOf words (Ran WriteFault) text = ⊥
+IsNamingOf words (Ran NoMemory) text = text ≡ []
+IsNamingOf words NoText text = HasNoText (words_alone words) × (text ≡ [])
+IsNamingOf words Malformed text = (request_in (words_alone words) ≡ None) × (text ≡ [])
+
+-- the same of words that were read, by the line that they denote
+abbrev pub NamesOfLine : Option Line → Ending → List ℕ → Type 0
+NamesOfLine (Some line) ending text = (ending ≡ Ran Done) × (text ≡ ended_names (files_of line))
+NamesOfLine None ending text = (ending ≡ Ran Usage) × (text ≡ [])
+
+-- a call ends so: the names stand at the front of the caller's room, as much of them as has place, and the number tells
+-- how long they are
+pub record NamesSo (words : List ℕ) (ending : Ending) (old new : List ℕ) (count : ℕ) : Type 0 where
+  pub text : List ℕ
+  pub names : IsNamingOf words ending text
+  pub kept : new ≡ filled old text
+  pub counted : count ≡ length text

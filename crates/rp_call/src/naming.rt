@@ -1,0 +1,89 @@
+//! Which files the words of a command line name.
+ghost use Rattle.std.specs.Prelude.{◌≡◌, [], IfOk, map, string_bytes};
+ghost use Rattle.rp_command_line.specs.Words.{line_in};
+ghost use Rattle.rp_call.specs.NamedFiles.{IsNamingOf, NamesOfLine, NamesSo, ended_names};
+
+use crate::ending::Ending;
+use rp_command_line::read_line;
+use rp_frame::{FrameFault, fill, read_frame};
+use rp_num::NoMemory;
+use rp_run::Status;
+use std::alloc::Global;
+
+/// Tells the files that the words of a command line name, in the order of the words: the names stand one after the
+/// other, each ended by a zero byte, as `answer` takes words and names. `words` are those after the program's name. A
+/// file that the words name twice is told twice. What has no room in `names` is cut off; `names_length` tells how long
+/// all names are.
+pub fn name_files(alloc: Global, words: &[u8], names: &mut [u8], names_length: &mut u64) -> Ending
+    ensures { NamesSo words.now result names.old names.new names_length.new }
+{
+    match names_of_words(alloc, words) {
+        Ok(named) => {
+            fill(names, named.text.as_slice(), names_length);
+            named.ending
+        }
+        Err(NoMemory) => {
+            fill(names, b"", names_length);
+            Ending::Ran(Status::NoMemory)
+        }
+    }
+}
+
+/// How a call ends that tells names, and what it tells.
+#[derive(Drop)]
+struct Named {
+    ending: Ending,
+    text: Vec<u8>,
+}
+
+/// An ending that no name is told of.
+fn no_names(alloc: Global, ending: Ending) -> Named
+    ensures ending { result.ending ≡ ending }
+    ensures text { result.text.items ≡ [] }
+{
+    Named {
+        ending,
+        text: Vec::new(alloc),
+    }
+}
+
+/// The names of the files of words that are handed over, or why there are none.
+fn names_of_words(alloc: Global, words: &[u8]) -> Result<Named, NoMemory>
+    ensures { IfOk result (λ named. IsNamingOf words.now named.ending named.text.items) }
+{
+    match read_frame(alloc, words, b"", &[], b"") {
+        Ok(handed) => names_of_line(alloc, handed.words.as_slice()),
+        Err(FrameFault::Malformed) => Ok(no_names(alloc, Ending::Malformed)),
+        Err(FrameFault::NoText) => Ok(no_names(alloc, Ending::NoText)),
+        Err(FrameFault::NoMemory) => Err(NoMemory),
+    }
+}
+
+/// The names of the files of the line that words denote, or none.
+fn names_of_line(alloc: Global, words: &[String]) -> Result<Named, NoMemory>
+    ensures { IfOk result (λ named.
+        NamesOfLine (line_in words.entry.now) named.ending named.text.items) }
+{
+    match read_line(alloc, words)? {
+        Some(line) => {
+            let text = ended(alloc, line.arguments.files.as_slice())?;
+            Ok(Named {
+                ending: Ending::Ran(Status::Done),
+                text,
+            })
+        }
+        None => Ok(no_names(alloc, Ending::Ran(Status::Usage))),
+    }
+}
+
+/// Names one after the other, each ended by a zero byte.
+fn ended(alloc: Global, names: &[&str]) -> Result<Vec<u8>, NoMemory>
+    ensures { IfOk result (λ text. text.items ≡ ended_names (map (λ name. name.now) names.now)) }
+{
+    let mut text = Vec::new(alloc);
+    for name in names {
+        text.extend_from_slice(name.as_bytes())?;
+        text.push(0)?;
+    }
+    Ok(text)
+}
