@@ -1,6 +1,6 @@
 -- The greatest money pump ratio for some costs is that for all that are the same between the observations.
-use Rattle.std.proofs.Common.{◌≡◌, ◌<◌, ◌*◌, ◌↔◌, ℕ, List, [], ◌∷◌, refl, ap, sym, ◌∙◌, subst}
-use Rattle.std.specs.Prelude.{ℤ, pos, ◌+ℤ◌, ◌-ℤ◌, ◌*ℤ◌, ◌≤ℤ◌}
+use Rattle.std.proofs.Common.{◌≡◌, ◌<◌, ◌*◌, ◌↔◌, ℕ, List, [], ◌∷◌, refl, ap, ◌∙◌, subst}
+use Rattle.std.specs.Prelude.{pos, ◌+ℤ◌, ◌-ℤ◌, ◌*ℤ◌, ◌≤ℤ◌}
 use Rattle.rp_evidence.specs.Preference.{AgreeBelow, IsWeak}
 use Rattle.rp_evidence.specs.Walk.{IsClosedWalk, IsWalk, LeadsTo}
 use Rattle.rp_evidence.proofs.SameCosts.{walk_same, walk_same_back, weak_same}

@@ -1,5 +1,5 @@
 -- What is asked of each household beside the verdicts, and of which tables it can be asked (this program's own).
-use Rattle.std.specs.Prelude.{◌≡◌, ◌⊎◌, false, [], Option, None}
+use Rattle.std.specs.Prelude.{◌≡◌, ◌⊎◌, false, [], None}
 use Rattle.rp_rows.specs.declared.asked.Asked.{Asked}
 use Rattle.rp_table.specs.Tables.{Observations}
 

@@ -10,7 +10,6 @@ use Rattle.rp_evidence.specs.Quasilinear.{IsNegativeCycle, MeetsQuasilinearTest}
 use Rattle.rp_evidence.specs.declared.homothetic.Homothetic.{Homothetic}
 use Rattle.rp_homo.specs.HomotheticVerdict.{IsHomotheticVerdict}
 use Rattle.rp_num.specs.Fraction.{Fraction, IsCoprime}
-use Rattle.rp_people.specs.Choices.{Choices}
 use Rattle.rp_people.specs.DividedLevels.{DividesLevels}
 use Rattle.rp_people.specs.Money.{HasConcaveWorth, HasWorth}
 use Rattle.rp_people.specs.Rationalizing.{HasConcaveUtility, HasHomogeneousUtility}

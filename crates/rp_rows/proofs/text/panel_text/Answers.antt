@@ -1,4 +1,4 @@
-use Rattle.std.proofs.Common.{◌++◌, [], ◌∙◌, append-nil, ap, map, refl, subst, sym, true}
+use Rattle.std.proofs.Common.{[], ◌∙◌, append-nil, ap, map, refl, subst, sym, true}
 use Rattle.csv.specs.Records.{fields_of}
 use Rattle.csv.specs.Writing.{row_text, with_flexible}
 use Rattle.csv.specs.declared.writer.WriterBuilder.{WriterBuilder}
