@@ -3,13 +3,13 @@ _rp() {
   local word=${COMP_WORDS[COMP_CWORD]} before=${COMP_WORDS[COMP_CWORD - 1]} options=
   COMPREPLY=()
   if [ "$COMP_CWORD" -eq 1 ]; then
-    mapfile -t COMPREPLY < <(compgen -W "pairs analyse certify check demand welfare utility random checkrandom trial menus pump cost power" -- "$word")
+    mapfile -t COMPREPLY < <(compgen -W "pairs analyse certify check demand welfare utility random checkrandom patches trial menus pump cost power" -- "$word")
     return
   fi
   case ${COMP_WORDS[1]} in
     demand | welfare) options="--json" ;;
     random) options="--per --json" ;;
-    checkrandom | menus) options="--per" ;;
+    checkrandom | patches | menus) options="--per" ;;
     trial) return ;;
   esac
   if [ "$before" = --per ]; then

@@ -6,6 +6,7 @@ pub mod DemandText
 pub mod GarpFirst
 pub mod MenusText
 pub mod PairsText
+pub mod PatchesText
 pub mod PowerText
 pub mod Printed
 pub mod PumpText

@@ -7,7 +7,7 @@ use Rattle.rp_command_line.specs.CommandForms.{CommandForm, draws, goods, over, 
 use Rattle.rp_command_line.specs.CommandForms.{with_levels, with_numbers, with_per}
 use Rattle.rp_command_line.specs.declared.commands.Command.{Command}
 use Rattle.rp_command_line.specs.declared.commands.Command.TheVariants.{Pairs, Analyse, Certify, Check, Demand, Welfare}
-use Rattle.rp_command_line.specs.declared.commands.Command.TheVariants.{Utility}
+use Rattle.rp_command_line.specs.declared.commands.Command.TheVariants.{Utility, Patches}
 use Rattle.rp_command_line.specs.declared.commands.Command.TheVariants.{Random, CheckRandom, Trial, Menus, Pump, Cost, Power}
 use Rattle.rp_command_line.specs.declared.commands.FileSet.{FileSet}
 use Rattle.rp_command_line.specs.declared.commands.FileSet.TheVariants as files
@@ -47,6 +47,7 @@ form_of Welfare = with_json (over (codes "welfare") files.TableAndPrices)
 form_of Utility = with_levels (over (codes "utility") files.TableAndBundles)
 form_of Random = with_per (with_json (over (codes "random") files.Choices))
 form_of CheckRandom = with_per (over (codes "checkrandom") files.ChoicesAndCertificate)
+form_of Patches = with_per (over (codes "patches") files.Choices)
 form_of Trial = with_numbers (seed ∷ rows ∷ goods ∷ []) (over (codes "trial") files.Nothing)
 form_of Menus = with_per (over (codes "menus") files.Menus)
 form_of Pump = over (codes "pump") files.Table
@@ -56,8 +57,8 @@ form_of Power = with_numbers (seed ∷ draws ∷ []) (over (codes "power") files
 -- in the order of the usage text
 abbrev pub commands : List Command
 commands =
-    Pairs ∷ Analyse ∷ Certify ∷ Check ∷ Demand ∷ Welfare ∷ Utility ∷ Random ∷ CheckRandom ∷ Trial
-    ∷ Menus ∷ Pump ∷ Cost ∷ Power ∷ []
+    Pairs ∷ Analyse ∷ Certify ∷ Check ∷ Demand ∷ Welfare ∷ Utility ∷ Random ∷ CheckRandom ∷ Patches
+    ∷ Trial ∷ Menus ∷ Pump ∷ Cost ∷ Power ∷ []
 
 abbrev pub forms : List CommandForm
 forms = map form_of commands

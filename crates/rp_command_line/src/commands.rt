@@ -27,6 +27,8 @@ pub enum Command {
     Random,
     /// The checker's verdict on a certificate on choices from budgets.
     CheckRandom,
+    /// The patches that choices from budgets fall in.
+    Patches,
     /// The verdicts on the trial table of a seed.
     Trial,
     /// Whether mixtures of strict orders make the choices from menus.
@@ -149,6 +151,7 @@ pub(crate) fn commands() -> &'static [Command]
         Command::Utility,
         Command::Random,
         Command::CheckRandom,
+        Command::Patches,
         Command::Trial,
         Command::Menus,
         Command::Pump,
@@ -186,6 +189,7 @@ impl Command {
             Command::Utility => over("utility", FileSet::TableAndBundles).with_levels(),
             Command::Random => over("random", FileSet::Choices).with_json().with_per(),
             Command::CheckRandom => over("checkrandom", FileSet::ChoicesAndCertificate).with_per(),
+            Command::Patches => over("patches", FileSet::Choices).with_per(),
             Command::Trial => over("trial", FileSet::Nothing).with_numbers(&[SEED, ROWS, GOODS]),
             Command::Menus => over("menus", FileSet::Menus).with_per(),
             Command::Pump => over("pump", FileSet::Table),
@@ -259,5 +263,5 @@ pub(crate) fn command_named(name: &str) -> Option<Command>
 pub fn usage() -> &'static [u8]
     ensures { result.now ≡ usage_text }
 {
-    b"usage: rp pairs TABLE\n       rp analyse TABLE\n       rp certify TABLE\n       rp check TABLE CERT\n       rp demand TABLE NEW [--json]\n       rp welfare TABLE NEW [--json]\n       rp utility TABLE BUNDLES\n       rp random BUDGETS CHOICES [--per N] [--json]\n       rp checkrandom BUDGETS CHOICES CERT [--per N]\n       rp trial SEED ROWS GOODS\n       rp menus FILE [--per N]\n       rp pump TABLE\n       rp cost TECH NEW\n       rp power TABLE SEED N\n"
+    b"usage: rp pairs TABLE\n       rp analyse TABLE\n       rp certify TABLE\n       rp check TABLE CERT\n       rp demand TABLE NEW [--json]\n       rp welfare TABLE NEW [--json]\n       rp utility TABLE BUNDLES\n       rp random BUDGETS CHOICES [--per N] [--json]\n       rp checkrandom BUDGETS CHOICES CERT [--per N]\n       rp patches BUDGETS CHOICES [--per N]\n       rp trial SEED ROWS GOODS\n       rp menus FILE [--per N]\n       rp pump TABLE\n       rp cost TECH NEW\n       rp power TABLE SEED N\n"
 }

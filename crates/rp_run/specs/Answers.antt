@@ -17,6 +17,7 @@ use Rattle.rp_answers.specs.WelfareText.{IsWelfareTextBy}
 use Rattle.rp_answers.specs.UtilityText.{IsUtilityText}
 use Rattle.rp_answers.specs.TrialText.{IsTrialTextBy}
 use Rattle.rp_answers.specs.MenusText.{IsMenusText}
+use Rattle.rp_answers.specs.PatchesText.{IsPatchesText}
 use Rattle.rp_answers.specs.PumpText.{IsPumpText}
 use Rattle.rp_answers.specs.CostText.{IsCostTextBy}
 use Rattle.rp_answers.specs.PowerText.{IsPowerText}
@@ -25,7 +26,7 @@ use Rattle.rp_answers.specs.Typed.{typed}
 use Rattle.rp_command_line.specs.CommandLine.{Arguments, Line, files_of, file_at, number}
 use Rattle.rp_command_line.specs.declared.commands.Command.{Command}
 use Rattle.rp_command_line.specs.declared.commands.Command.TheVariants.{Pairs, Analyse, Certify, Check, Demand, Welfare}
-use Rattle.rp_command_line.specs.declared.commands.Command.TheVariants.{Utility}
+use Rattle.rp_command_line.specs.declared.commands.Command.TheVariants.{Utility, Patches}
 use Rattle.rp_command_line.specs.declared.commands.Command.TheVariants.{Random, CheckRandom, Trial, Menus, Pump, Cost, Power}
 use Rattle.rp_run.specs.declared.contents.Contents.{Contents}
 use Rattle.rp_run.specs.declared.contents.Contents.TheVariants as contents
@@ -59,6 +60,7 @@ IsTextBy printed Welfare arguments (contents.TableAndPrices table new) text =
 IsTextBy printed Utility arguments (contents.TableAndBundles table bundles) text = IsUtilityText table bundles text
 IsTextBy printed Random arguments (contents.Choices patches types) text =
     IsRandomText arguments.json (typed patches types) text
+IsTextBy printed Patches arguments (contents.Choices patches types) text = IsPatchesText patches text
 IsTextBy printed Trial arguments contents.Nothing text =
     IsTrialTextBy printed (number arguments 0) (number arguments 1) (number arguments 2) text
 IsTextBy printed Menus arguments (contents.Menus list units) text = IsMenusText arguments.per list units text

@@ -14,8 +14,8 @@ use crate::contents::{Contents, read_contents};
 use crate::files::Cause;
 use rp_answers::{
     Answer, Edition, Status, analysis_text, check_answer, check_random_answer, cost_text,
-    demand_text, menus_text, pairs_text, power_text, pump_text, random_text, trial_text,
-    utility_text, welfare_text,
+    demand_text, menus_text, pairs_text, patches_text, power_text, pump_text, random_text,
+    trial_text, utility_text, welfare_text,
 };
 use rp_command_line::{Command, Line};
 use rp_limits::command_line::MOST_DRAWS;
@@ -64,6 +64,7 @@ fn answer_over<P: Edition>(
         Command::Utility => Ok(done(text_of_utility::<P>(alloc, held)?)),
         Command::Random => Ok(done(text_of_random::<P>(alloc, line, held)?)),
         Command::CheckRandom => check_of_choices::<P>(alloc, held),
+        Command::Patches => Ok(done(text_of_patches::<P>(alloc, held)?)),
         Command::Trial => Ok(done(text_of_trial::<P>(alloc, line)?)),
         Command::Menus => Ok(done(text_of_menus::<P>(alloc, line, held)?)),
         Command::Pump => Ok(done(pump_text(alloc, held.table())?)),
@@ -146,6 +147,16 @@ fn check_of_choices<P: Edition>(alloc: Global, held: &Contents) -> Result<Answer
 {
     let (patches, certificate) = held.choices_and_certificate();
     check_random_answer(alloc, patches, certificate)
+}
+
+/// The patches that choices fall in.
+fn text_of_patches<P: Edition>(alloc: Global, held: &Contents) -> Result<Vec<u8>, NoMemory>
+    requires { AreOf false files.Choices held.now }
+    ensures { (arguments : Arguments) → IfOk result (λ text.
+        IsTextBy P.printed commands.Patches arguments held.now text.items) }
+{
+    let (patches, _) = held.choices();
+    patches_text(alloc, patches)
 }
 
 /// The verdicts on a table of pseudorandom numbers.

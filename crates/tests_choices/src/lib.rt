@@ -1,5 +1,5 @@
 //! Tests of `run` on choices: `random` and `checkrandom` with their reports, certificates and limits, and forged
-//! certificates; what `menus` prints and refuses.
+//! certificates; the text of `patches`; what `menus` prints and refuses.
 #![tactic(auto)]
 
 #[cfg(test)]
@@ -14,5 +14,7 @@ mod limits;
 mod lines;
 #[cfg(test)]
 mod menus;
+#[cfg(test)]
+mod patches;
 #[cfg(test)]
 mod six_letters;

@@ -25,6 +25,15 @@ const JSON: Case<'static> = Case {
     text: OF_VIOLATION,
 };
 
+const PATCHES: Case<'static> = Case {
+    words: &["rp", "patches", "b.csv", "c.csv"],
+    files: &[BUDGETS, VIOLATING],
+    status: Status::Done,
+    text: "budgets 2 patches 4 total 4\npatch 1 budget 1 units 1 sides on above\n\
+        patch 2 budget 1 units 3 sides on below\npatch 3 budget 2 units 2 sides above on\n\
+        patch 4 budget 2 units 2 sides below on\n",
+};
+
 const ACCEPTED: Case<'static> = Case {
     words: &["rp", "checkrandom", "b.csv", "c.csv", "v.json"],
     files: &[BUDGETS, VIOLATING, ("v.json", OF_VIOLATION)],
@@ -39,7 +48,7 @@ const REJECTED: Case<'static> = Case {
     text: "rejected item 1 Units place 2\n",
 };
 
-const CASES: &[Case<'static>] = &[REPORT, JSON, ACCEPTED, REJECTED];
+const CASES: &[Case<'static>] = &[REPORT, JSON, PATCHES, ACCEPTED, REJECTED];
 
 #[test]
 fn each_read_of_budgets_and_choices_fails_in_turn(rt: HostRuntime) -> Result<(), Fail> {

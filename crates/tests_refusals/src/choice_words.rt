@@ -125,6 +125,9 @@ const REFUSED: &[&[&str]] = &[
     &["rp", "checkrandom", "b.csv", "c.csv", "v.json", "--per"],
     &["rp", "checkRandom", "b.csv", "c.csv", "v.json"],
     &["rp", "check-random", "b.csv", "c.csv", "v.json"],
+    &["rp", "patches", "b.csv"],
+    &["rp", "patches", "b.csv", "c.csv", "--json"],
+    &["rp", "patches", "b.csv", "c.csv", "--per", "0"],
 ];
 
 #[test]

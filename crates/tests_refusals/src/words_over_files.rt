@@ -10,9 +10,9 @@ const USAGE: &str =
     "usage: rp pairs TABLE\n       rp analyse TABLE\n       rp certify TABLE\n       rp check TABLE CERT\n\
     \x20      rp demand TABLE NEW [--json]\n       rp welfare TABLE NEW [--json]\n\
     \x20      rp utility TABLE BUNDLES\n       rp random BUDGETS CHOICES [--per N] [--json]\n\
-    \x20      rp checkrandom BUDGETS CHOICES CERT [--per N]\n       rp trial SEED ROWS GOODS\n\
-    \x20      rp menus FILE [--per N]\n       rp pump TABLE\n       rp cost TECH NEW\n\
-    \x20      rp power TABLE SEED N\n";
+    \x20      rp checkrandom BUDGETS CHOICES CERT [--per N]\n       rp patches BUDGETS CHOICES [--per N]\n\
+    \x20      rp trial SEED ROWS GOODS\n       rp menus FILE [--per N]\n       rp pump TABLE\n\
+    \x20      rp cost TECH NEW\n       rp power TABLE SEED N\n";
 
 /// Tables, of which two observations of `t.csv` and of `--x` contradict each other, and bundles, new prices and a
 /// certificate beside them.

@@ -17,3 +17,8 @@ pub returns-in_ok-text_of_cost-in-Cost : goal.returns-in_ok-text_of_cost-in-Cost
 returns-in_ok-text_of_cost-in-Cost g c =
     rw (c.in-Cost.is, c.done-in-Cost.ensures)
     (refl, c.in_ok-text_of_cost-in-Cost.ensures (named_arguments c.args.line.now.arguments))
+
+pub returns-in_ok-text_of_patches-in-Patches : goal.returns-in_ok-text_of_patches-in-Patches
+returns-in_ok-text_of_patches-in-Patches g c =
+    rw (c.in-Patches.is, c.done-in-Patches.ensures)
+    (refl, c.in_ok-text_of_patches-in-Patches.ensures (named_arguments c.args.line.now.arguments))

@@ -1,0 +1,5 @@
+pub mod GroupLemmas
+pub mod HeaderLemmas
+pub mod PanelLemmas
+pub mod PutLemmas
+pub mod StageLemmas

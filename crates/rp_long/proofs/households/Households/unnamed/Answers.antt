@@ -1,0 +1,6 @@
+use Rattle.std.proofs.Common.{◌∙◌}
+use Rattle.rp_long.proofs.PanelLemmas.{same_unnamed}
+use Rattle.rp_long.proofs.households.Households.unnamed.Goals as goal
+
+pub returns : goal.returns
+returns c = c.unnamed.ensures ∙ same_unnamed c.self.inside.columns c.self.inside.records.now c.self.inside.groups c.args.self.now c.self.invariant.1 c.self.view_is
