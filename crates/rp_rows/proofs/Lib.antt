@@ -1,0 +1,3 @@
+mod VerdictLemmas
+mod PumpSame
+mod TextLemmas

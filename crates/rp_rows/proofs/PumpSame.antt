@@ -1,0 +1,59 @@
+-- The greatest money pump ratio for some costs is that for all that are the same between the observations.
+use Rattle.std.proofs.Common.{◌≡◌, ◌<◌, ◌*◌, ◌↔◌, ℕ, List, [], ◌∷◌, refl, ap, ◌∙◌, subst}
+use Rattle.std.specs.Prelude.{pos, ◌+ℤ◌, ◌-ℤ◌, ◌*ℤ◌, ◌≤ℤ◌}
+use Rattle.rp_evidence.specs.Preference.{AgreeBelow, IsWeak}
+use Rattle.rp_evidence.specs.Walk.{IsClosedWalk, IsWalk, LeadsTo}
+use Rattle.rp_evidence.proofs.SameCosts.{walk_same, walk_same_back, weak_same}
+use Rattle.rp_pump.specs.MoneyPump.{HasPumpRatio, IsPumpIndex, PumpsAtMost, gain, gain_from, spent_from, walk_gain, walk_spent}
+
+module _ (n : ℕ) (c d : ℕ → ℕ → ℕ) (same : AgreeBelow n c d) where
+  gain_same : (s t : ℕ) → s < n → t < n → gain c s t ≡ gain d s t
+  gain_same s t a b = ap (λ x. pos x -ℤ pos (c s t)) (same s s a a) ∙ ap (λ x. pos (d s s) -ℤ pos x) (same s t a b)
+
+  module _ (step : ℕ → ℕ → Type 0) where
+    starts : (s t : ℕ) (walk : List ℕ) → LeadsTo n step s t walk → s < n
+    starts s t [] leads = leads.0
+    starts s t (x ∷ rest) leads = leads.0
+
+    gain_from_same : (s t : ℕ) (walk : List ℕ) → LeadsTo n step s t walk → gain_from c s walk ≡ gain_from d s walk
+    gain_from_same s t [] leads = refl
+    gain_from_same s t (x ∷ rest) leads =
+        ap (λ g. g +ℤ gain_from c x rest) (gain_same s x leads.0 (starts x t rest leads.2)) ∙ ap (λ g. gain d s x +ℤ g) (gain_from_same x t rest leads.2)
+
+    spent_from_same : (s t : ℕ) (walk : List ℕ) → LeadsTo n step s t walk → spent_from c s walk ≡ spent_from d s walk
+    spent_from_same s t [] leads = refl
+    spent_from_same s t (x ∷ rest) leads = rw (same s s leads.0 leads.0, spent_from_same x t rest leads.2) refl
+
+    walk_gain_same : (s t : ℕ) (walk : List ℕ) → IsWalk n step s t walk → walk_gain c walk ≡ walk_gain d walk
+    walk_gain_same s t [] is = absurd is
+    walk_gain_same s t (x ∷ rest) is = gain_from_same x t rest is.1
+
+    walk_spent_same : (s t : ℕ) (walk : List ℕ) → IsWalk n step s t walk → walk_spent c walk ≡ walk_spent d walk
+    walk_spent_same s t [] is = absurd is
+    walk_spent_same s t (x ∷ rest) is = spent_from_same x t rest is.1
+
+    ratio_same : (num den : ℕ) (walk : List ℕ) → IsClosedWalk n step walk → HasPumpRatio c num den walk → HasPumpRatio d num den walk
+    ratio_same num den walk closed has =
+        subst (λ g. g *ℤ pos den ≡ pos (num * walk_spent d walk)) (walk_gain_same closed.0 closed.0 walk closed.1)
+        (subst (λ k. walk_gain c walk *ℤ pos den ≡ pos (num * k)) (walk_spent_same closed.0 closed.0 walk closed.1) has)
+
+    at_most_same : (num den : ℕ) (walk : List ℕ) → IsClosedWalk n step walk → PumpsAtMost c num den walk → PumpsAtMost d num den walk
+    at_most_same num den walk closed at_most =
+        subst (λ g. (g *ℤ pos den) ≤ℤ pos (num * walk_spent d walk)) (walk_gain_same closed.0 closed.0 walk closed.1)
+        (subst (λ k. (walk_gain c walk *ℤ pos den) ≤ℤ pos (num * k)) (walk_spent_same closed.0 closed.0 walk closed.1) at_most)
+
+  weak_is : (s t : ℕ) → s < n → t < n → IsWeak c s t ↔ IsWeak d s t
+  weak_is = weak_same n c d 1 1 same
+
+  closed_same : (walk : List ℕ) → IsClosedWalk n (IsWeak c) walk → IsClosedWalk n (IsWeak d) walk
+  closed_same walk closed = (closed.0, walk_same n (IsWeak c) (IsWeak d) weak_is closed.0 closed.0 walk closed.1, closed.2)
+
+  closed_back : (walk : List ℕ) → IsClosedWalk n (IsWeak d) walk → IsClosedWalk n (IsWeak c) walk
+  closed_back walk closed = (closed.0, walk_same_back n (IsWeak c) (IsWeak d) weak_is closed.0 closed.0 walk closed.1, closed.2)
+
+  pub index_same : (num den : ℕ) → IsPumpIndex n c num den → IsPumpIndex n d num den
+  index_same num den index = record {
+    positive = index.positive;
+    reached = (index.reached.0, closed_same index.reached.0 index.reached.1, ratio_same (IsWeak c) num den index.reached.0 index.reached.1 index.reached.2);
+    greatest = λ walk closed. at_most_same (IsWeak d) num den walk closed (index.greatest walk (closed_back walk closed));
+  }
