@@ -18,17 +18,17 @@ household,p_a,p_a|A,1| => TwiceNamed { column: 3 }
 
 #[test]
 fn a_file_is_refused_with_its_first_fault(rt: HostRuntime) -> Result<(), Fail> {
-    assert_files(&rt, rt.alloc(), "household", "", REFUSED)
+    assert_files(&rt, rt.alloc(), "household", &[], REFUSED)
 }
 
 #[test]
 fn an_empty_file_is_refused(rt: HostRuntime) -> Result<(), Fail> {
-    assert_told(&rt, rt.alloc(), "", "household", "", "Empty")
+    assert_told(&rt, rt.alloc(), "", "household", &[], "Empty")
 }
 
 #[test]
 fn a_name_to_be_kept_has_a_column(rt: HostRuntime) -> Result<(), Fail> {
     let file = "household,p_a,q_a\nA,1,2\n";
     let wanted = "NoKeptColumn { number: 1 }";
-    assert_told(&rt, rt.alloc(), file, "household", "town", wanted)
+    assert_told(&rt, rt.alloc(), file, "household", &[b"town"], wanted)
 }

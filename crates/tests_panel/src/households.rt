@@ -32,29 +32,29 @@ town,household,p_a,q_a| x ,A,1,2|,B,3,4| => A 1 [ 1x2] : x ;B 1 [ 3x4] :;
 
 #[test]
 fn households_have_their_records_wherever_they_stand(rt: HostRuntime) -> Result<(), Fail> {
-    assert_files(&rt, rt.alloc(), "household", "", HOUSEHOLDS)
+    assert_files(&rt, rt.alloc(), "household", &[], HOUSEHOLDS)
 }
 
 #[test]
 fn a_household_has_the_fault_of_its_own(rt: HostRuntime) -> Result<(), Fail> {
-    assert_files(&rt, rt.alloc(), "household", "", FAULTS)
+    assert_files(&rt, rt.alloc(), "household", &[], FAULTS)
 }
 
 #[test]
 fn texts_of_the_first_record_are_kept(rt: HostRuntime) -> Result<(), Fail> {
-    assert_files(&rt, rt.alloc(), "household", "town", KEPT)
+    assert_files(&rt, rt.alloc(), "household", &[b"town"], KEPT)
 }
 
 #[test]
 fn a_line_end_in_an_id_makes_no_record(rt: HostRuntime) -> Result<(), Fail> {
     let file = "household,p_a,q_a\r\n\"A\rB\",1,2\r\n\"A\r\nB\",3,4\r\nA,5,6\r\n";
     let wanted = "A\rB 1 [ 1x2];A\r\nB 1 [ 3x4];A 1 [ 5x6];";
-    assert_told(&rt, rt.alloc(), file, "household", "", wanted)
+    assert_told(&rt, rt.alloc(), file, "household", &[], wanted)
 }
 
 #[test]
 fn ids_stand_under_any_name(rt: HostRuntime) -> Result<(), Fail> {
     let file = "obs,household,p_a,q_a\n1,A,1,2\n2,A,3,4\n";
     let wanted = "1 1 [ 1x2];2 1 [ 3x4];";
-    assert_told(&rt, rt.alloc(), file, "obs", "", wanted)
+    assert_told(&rt, rt.alloc(), file, "obs", &[], wanted)
 }

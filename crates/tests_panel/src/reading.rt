@@ -1,5 +1,7 @@
 //! What is found in long files that are written out. The reader is called by functions with no clause, so that no proof
 //! works out what such a file denotes.
+ghost use Rattle.std.specs.Prelude.{◌<◌, length};
+
 use rp_long::{Households, LongFault, read_long_records, read_panel};
 use rp_num::{NoMemory, Seq};
 use rp_table::Table;
@@ -44,7 +46,9 @@ fn push_household(
     text: &mut String,
     panel: &Households<'_>,
     h: usize,
-) -> Result<(), NoMemory> {
+) -> Result<(), NoMemory>
+    requires { h < length panel.now.households }
+{
     push_bytes(text, panel.id(h))?;
     let observations = panel.observations(h);
     write!(text, " {observations}")?;
@@ -71,15 +75,9 @@ fn households(alloc: Global, panel: &Households<'_>) -> Result<String, NoMemory>
     Ok(text)
 }
 
-/// What a long file says, with the texts under one name where there is one.
-fn told_of(alloc: Global, file: &str, id: &str, kept: &str) -> Result<String, NoMemory> {
+/// What a long file says, with the texts under these names.
+fn told_of(alloc: Global, file: &str, id: &str, kept: &[&[u8]]) -> Result<String, NoMemory> {
     let records = read_long_records(alloc, file.as_bytes())?;
-    let names = [kept.as_bytes()];
-    let kept = if kept.is_empty() {
-        &names[..0]
-    } else {
-        &names[..]
-    };
     match read_panel(alloc, &records, id.as_bytes(), kept) {
         Ok(panel) => households(alloc, &panel),
         Err(LongFault::Table(fault)) => Ok(format!(in alloc; "{fault:?}")?),
@@ -93,7 +91,7 @@ pub(crate) fn assert_told(
     alloc: Global,
     file: &str,
     id: &str,
-    kept: &str,
+    kept: &[&[u8]],
     wanted: &str,
 ) -> Result<(), Fail> {
     let Ok(got) = told_of(alloc, file, id, kept) else {
@@ -109,7 +107,7 @@ pub(crate) fn assert_files(
     rt: &impl Abort,
     alloc: Global,
     id: &str,
-    kept: &str,
+    kept: &[&[u8]],
     cases: &str,
 ) -> Result<(), Fail> {
     for case in cases.lines() {
@@ -120,26 +118,30 @@ pub(crate) fn assert_files(
     Ok(())
 }
 
-/// How many households a file has, how many of them have a table, and how many records are refused for their ids; or
-/// the file's fault.
-pub(crate) fn counted(alloc: Global, file: &str) -> Result<(usize, usize, usize), TableFault> {
+/// How many households a file has, how many of the last of them have a table, and how many records are refused for
+/// their ids; or the file's fault.
+pub(crate) fn counted(
+    alloc: Global,
+    file: &str,
+    last: usize,
+) -> Result<(usize, usize, usize), TableFault> {
     let records = read_long_records(alloc, file.as_bytes())?;
     match read_panel(alloc, &records, b"household", &[]) {
-        Ok(panel) => Ok((
-            panel.len(),
-            with_tables(alloc, &panel),
-            panel.unnamed().len(),
-        )),
+        Ok(panel) => {
+            let tables = last_tables(alloc, &panel, last);
+            Ok((panel.len(), tables, panel.unnamed().len()))
+        }
         Err(LongFault::Table(fault)) => Err(fault),
         Err(_) => Err(TableFault::Empty),
     }
 }
 
-fn with_tables(alloc: Global, panel: &Households<'_>) -> usize {
-    let mut count = 0;
-    for h in 0..panel.len() {
+fn last_tables(alloc: Global, panel: &Households<'_>, last: usize) -> usize {
+    let mut count = 0usize;
+    let households = panel.len();
+    for h in households.saturating_sub(last)..households {
         if panel.table(alloc, h).is_ok() {
-            count += 1;
+            count = count.saturating_add(1);
         }
     }
     count
