@@ -11,6 +11,7 @@ import {
   sumSentences,
   walkInWords,
 } from "./reports.js";
+import { WIDE, WIDE_MEANS, isWideTest, reportBy } from "./says.js";
 import { sentence } from "./sentences.js";
 
 const WITHHELD = "withheld";
@@ -109,17 +110,23 @@ function afriatCard(item, table, levels) {
   return card(title, verdict, "", say(`The program stopped ${item.verdict.replace(`${WITHHELD} `, "")}.`));
 }
 
-/** The card of the homothetic or the quasilinear test; `steps` says its cycle in words. */
-function testCard(name, title, item, table, levels, steps) {
+/**
+ * The card of the homothetic or the quasilinear test; `steps` says its cycle in words, and `isWide` whether `rp` itself
+ * withholds the verdict.
+ */
+function testCard(name, title, item, table, levels, steps, isWide = false) {
   const word = item.verdict.split(" ")[0];
-  const verdict = sentence(name, word, { levels });
+  const own = sentence(name, word, { levels });
+  const verdict = isWide ? { ...own, head: `${own.head} ${WIDE}` } : own;
+  const marked = isWide ? [make("p", { className: "note", textContent: WIDE_MEANS })] : [];
   if (word === "holds") {
     const columns = { value: item.values };
     if (item.values.includes("/")) columns.decimal = item.values.split(" ").map((it) => decimalOf(it, 6)).join(" ");
-    return card(title, verdict, "good", folded("The evidence", byObservation(table, columns)));
+    return card(title, verdict, "good", ...marked, folded("The evidence", byObservation(table, columns)));
   }
   if (word === "violated") {
-    return card(title, verdict, "bad", folded("The evidence", listOf(steps(numbersIn(item.cycle), table))));
+    const evidence = folded("The evidence", listOf(steps(numbersIn(item.cycle), table)));
+    return card(title, verdict, "bad", ...marked, evidence);
   }
   return card(title, verdict, "", say(`The program stopped at ${item.verdict.replace(`${WITHHELD} `, "")}.`));
 }
@@ -167,9 +174,10 @@ function pictureOf(report, table, name) {
 
 /**
  * Everything that the answer of `analyse` says, for reading. `certificate` gives the certificate's text; with own money
- * at each observation the quasilinear test, which adds money of several, is left out.
+ * at each observation the quasilinear test, which adds money of several, is left out. `stated` is what `rp` itself
+ * writes, where the answer is the wider edition's.
  */
-export function tableAnswers(output, table, certificate, hasOwnMoney = false) {
+export function tableAnswers(output, table, certificate, hasOwnMoney = false, stated = null) {
   const report = parseReport(output);
   const { garp, afriat, efficiency, homothetic, quasilinear } = report.items;
   const levels = Boolean(report.levels);
@@ -202,6 +210,7 @@ export function tableAnswers(output, table, certificate, hasOwnMoney = false) {
       table,
       levels,
       productSentences,
+      isWideTest(output, stated),
     ),
   ];
   if (!hasOwnMoney) {
@@ -223,7 +232,7 @@ export function tableAnswers(output, table, certificate, hasOwnMoney = false) {
       make("div", { className: figure ? "cards" : "cards many" }, ...cards),
       figure,
     ),
-    folded("The report, as the program prints it", printed(output)),
+    folded(reportBy(stated), printed(output)),
     make("div", { className: "row" }, keep),
   );
 }

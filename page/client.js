@@ -52,9 +52,12 @@ export class Client {
     return this.#send(kind, given);
   }
 
-  /** The status, what is written and what is told, for the words of a command over files. */
-  answer(words, files) {
-    return this.#ask("one", { words, files });
+  /**
+   * The status, what is written and what is told, for the words of a command over files; and as `stated` what `rp`
+   * itself writes, where the answer is the wider edition's. An `edition`, `rp` or `rp-wide`, is asked alone.
+   */
+  answer(words, files, edition = null) {
+    return this.#ask("one", { words, files, edition });
   }
 
   /**

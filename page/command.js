@@ -47,9 +47,10 @@ export function commandForm(client, examples) {
   const go = async () => {
     cleared();
     const own = number;
-    const words = wordsOf(line.value.replace(/^\s*(\.\/)?rp(?=\s|$)/, ""));
+    const [, edition = "rp", rest] = /^\s*(?:(?:\.\/)?(rp-wide|rp)(?=\s|$))?(.*)$/.exec(line.value);
+    const words = wordsOf(rest);
     const named = [...files].filter(([name]) => words.includes(name)).map(([name, bytes]) => ({ name, bytes }));
-    const answer = await client.answer(words, named);
+    const answer = await client.answer(words, named, edition);
     if (own !== number) return;
     const texts = [
       make("p", { id: "command-status", textContent: `status ${answer.status}` }),
@@ -60,7 +61,10 @@ export function commandForm(client, examples) {
   };
   line.addEventListener("keydown", (event) => event.key === "Enter" && go());
   return [
-    say(`The words are those of the program, after its name: ${commands().map((it) => it.usage).join("; ")}.`),
+    say(
+      `The words are those of the program, after its name: ${commands().map((it) => it.usage).join("; ")}. With ` +
+        "rp-wide in front of them its wider edition answers, which seeks what rp withholds.",
+    ),
     make("div", { className: "row" }, labelled("Files:", chooser)),
     list,
     make("div", { className: "row" }, labelled("rp", line), button("Answer this line", go)),

@@ -165,7 +165,7 @@ async function answerTable(slot, own) {
   const certificate = async () => (await client.answer(["certify", file.name], [file])).output;
   shows.tell(`${file.name}: answered.`);
   window.firstAnswer ??= performance.now();
-  shows.results(tableAnswers(given.output, table, certificate, hasOwnMoney));
+  shows.results(tableAnswers(given.output, table, certificate, hasOwnMoney, given.stated));
   shows.questions(...tableQuestions(client, file, table, shows, hasOwnMoney));
 }
 

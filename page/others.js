@@ -1,8 +1,8 @@
 /** The answers on the other kinds of files: choices from budgets and from menus, and production. */
-import { button, keepFile, labelled, listOf, make, printed } from "./dom.js";
+import { button, keepFile, labelled, listOf, make, printed, say } from "./dom.js";
 import { checkQuestion, verdictOf } from "./questions.js";
 import { placesOf } from "./reports.js";
-import { costSays, firmSays, populationSays } from "./says.js";
+import { WIDE, WIDE_MEANS, costSays, firmSays, populationSays } from "./says.js";
 import { parseRecords } from "./sheets.js";
 
 /** The most places of a number in columns with this mark. */
@@ -13,12 +13,13 @@ function placesIn(bytes, mark) {
 }
 
 /** What is said above the program's text of the other kinds of files. */
-function otherSays(kind, output, files) {
+function otherSays(kind, { output, stated }, files) {
   if (kind === "budgets") return [verdictOf(populationSays(output, "random"))];
   if (kind === "menus") return [verdictOf(populationSays(output, "menus"))];
   const inputs = Number(/^technology .* places \d+ (\d+)$/m.exec(output)[1]);
-  const bounds = costSays(output, placesIn(files[1].bytes, /^w_/) + inputs);
-  return [...firmSays(output).map(verdictOf), ...(bounds.length ? [listOf(bounds)] : [])];
+  const bounds = costSays(output, placesIn(files[1].bytes, /^w_/) + inputs, stated);
+  const means = bounds.some((it) => it.includes(WIDE)) ? [say(WIDE_MEANS)] : [];
+  return [...firmSays(output).map(verdictOf), ...(bounds.length ? [listOf(bounds)] : []), ...means];
 }
 
 /** Asks a question of the other kinds of files; `per` is the number of units that is asked for, or nothing. */
@@ -28,7 +29,7 @@ export async function otherAnswers(client, kind, files, per) {
   const command = { budgets: "random", menus: "menus", production: "cost" }[kind];
   const answer = await client.answer([command, ...names, ...(kind === "production" ? [] : units)], files);
   if (answer.status !== 0) return { answer, parts: [] };
-  const parts = [...otherSays(kind, answer.output, files), printed(answer.output)];
+  const parts = [...otherSays(kind, answer, files), printed(answer.output)];
   if (kind === "budgets") {
     const keep = async () => keepFile(
       "certificate.json",

@@ -2,7 +2,7 @@
 import { button, keepFile, labelled, make } from "./dom.js";
 import { area, pricePlacesOf, question } from "./questions.js";
 import { Purchases, decimalOf, inUnits, parseFault, parseReport } from "./reports.js";
-import { isWithheld } from "./says.js";
+import { WIDE_COLUMN, isWithheld } from "./says.js";
 import { bytesOf, parseRecords, placeInFile, placeInWords, writeRecords } from "./sheets.js";
 
 const BOUND = new RegExp(
@@ -17,16 +17,20 @@ const BOUND_COLUMNS = [
   "lower_decimal",
   "upper",
   "upper_decimal",
+  "wide",
   "told",
 ];
 
+/** The bounds of each line of a report that has some. */
+const boundsIn = (output) => output.split("\n").map((line) => BOUND.exec(line)).filter(Boolean);
+
 /**
  * What a household is answered at new prices, a row for each bound, in the units of the file: `of` is a good, or an
- * observation; `refusal` says why a household is refused.
+ * observation; `wide` names the bounds that `rp` itself withholds; `refusal` says why a household is refused.
  */
 export function boundRows(kind, answer, goods, pricePlaces, refusal = (text) => text.trim()) {
-  const { household, status, output, told } = answer;
-  const none = (why, number) => [[household, String(number), "", "", "", "", "", "", why]];
+  const { household, status, output, told, stated } = answer;
+  const none = (why, number) => [[household, String(number), "", "", "", "", "", "", "", why]];
   if (status !== 0) return none(refusal(told), status);
   const places = parseReport(output).size.quantities + (kind === "welfare" ? pricePlaces : 0);
   const units = (text) => {
@@ -35,13 +39,17 @@ export function boundRows(kind, answer, goods, pricePlaces, refusal = (text) => 
     return [exact, decimalOf(exact, 6)];
   };
   const rows = [];
+  const own = boundsIn(stated ?? output);
+  const isWide = (text, other) => !isWithheld(text) && isWithheld(other);
   let record = 0;
   for (const line of output.split("\n")) {
     if (line.startsWith("demand ") || /^welfare .* observation 1 /.test(line)) record += 1;
     const bound = BOUND.exec(line);
     if (bound) {
       const of = kind === "demand" ? goods[Number(bound[1]) - 1] : bound[1];
-      rows.push([household, "0", String(record), of, ...units(bound[2]), ...units(bound[3]), ""]);
+      const rp = own[rows.length];
+      const wide = ["", "", "lower", "upper"].filter((side, at) => side && isWide(bound[at], rp[at])).join(" ");
+      rows.push([household, "0", String(record), of, ...units(bound[2]), ...units(bound[3]), wide, ""]);
     }
   }
   return rows.length ? rows : none("the axiom is violated, so there are no bounds", 0);
@@ -52,7 +60,7 @@ function panelQuestion(client, households, kind, says, field, { working, progres
   const explains =
     "The same new prices for every household. Bounds are exact, in the units of the file, each with its decimal " +
     "rounded " +
-    "down beside it; where the axiom fails there are none.";
+    `down beside it; where the axiom fails there are none. ${WIDE_COLUMN}`;
   return question(says, explains, [labelled("New prices as CSV", field)], async (place, isCurrent) => {
     const [rows, began] = [[], performance.now()];
     const typed = { name: "new prices", bytes: bytesOf(field.value) };

@@ -6,6 +6,7 @@ import { MOST_SEED } from "./draws.js";
 import { limit } from "./facts.js";
 import { indexPicture, fileOf } from "./pictures.js";
 import { Purchases, asNumber, decimalOf, parseFault, parseReport } from "./reports.js";
+import { WIDE_COLUMN, isWideTest } from "./says.js";
 import { parseRecords, writeRecords } from "./sheets.js";
 
 // How many rows stand on the page at once.
@@ -19,6 +20,7 @@ export const COLUMNS = [
   "attained",
   "homothetic",
   "quasilinear",
+  "wide",
   "cycle",
   "told",
 ];
@@ -30,7 +32,7 @@ function refusalInWords(told, place) {
 }
 
 /** What a household's answer says, by column; `place` says where in the file a fault stands. */
-export function rowOf({ household, status, output, told }, place = () => "") {
+export function rowOf({ household, status, output, told, stated = null }, place = () => "") {
   if (status !== 0) {
     const nothing = Object.fromEntries(COLUMNS.map((it) => [it, ""]));
     return { ...nothing, household, status: String(status), told: refusalInWords(told, place) };
@@ -48,6 +50,7 @@ export function rowOf({ household, status, output, told }, place = () => "") {
     attained,
     homothetic: word(items.homothetic),
     quasilinear: word(items.quasilinear),
+    wide: isWideTest(output, stated) ? "homothetic" : "",
     cycle: items.garp.cycle ?? "",
     told: "",
   };
@@ -218,7 +221,7 @@ export class Panel {
     const given = await this.client.answer(["analyse", file.name], [file]);
     if (own !== this.opening) return;
     const certificate = async () => (await this.client.answer(["certify", file.name], [file])).output;
-    const answers = tableAnswers(given.output, purchasesOf(file.bytes), certificate, this.hasOwnMoney);
+    const answers = tableAnswers(given.output, purchasesOf(file.bytes), certificate, this.hasOwnMoney, given.stated);
     this.opened.replaceChildren(head, answers);
     this.opened.scrollIntoView({ block: "nearest" });
   }
@@ -249,7 +252,8 @@ export class Panel {
     if (!isWhole) return;
     const found = this.#shown();
     this.body.replaceChildren(...found.slice(0, MOST_ROWS).map((row) => this.#row(row)));
-    const opens = " Press a household to see its picture and its cycle.";
+    const marked = this.rows.some((it) => it.wide) ? ` ${WIDE_COLUMN}` : "";
+    const opens = ` Press a household to see its picture and its cycle.${marked}`;
     this.note.textContent = (found.length > MOST_ROWS
       ? `The first ${MOST_ROWS} of ${found.length} rows are shown; the CSV has all.`
       : `${found.length} rows.`) + opens;

@@ -16,7 +16,18 @@ import {
   placesOf,
   withDecimal,
 } from "./reports.js";
-import { demandBounds, demandSays, powerSays, pumpSays, utilitySays, welfareBounds, welfareSays } from "./says.js";
+import {
+  WIDE,
+  WIDE_MEANS,
+  demandBounds,
+  demandSays,
+  powerSays,
+  pumpSays,
+  reportBy,
+  utilitySays,
+  welfareBounds,
+  welfareSays,
+} from "./says.js";
 import { sentence } from "./sentences.js";
 import { bytesOf, parseRecords, placeInFile, placeInWords, writeRecords } from "./sheets.js";
 
@@ -37,7 +48,7 @@ function refusalOf({ status, told }, typed) {
 /** Shows an answer: what it means, and the program's texts; or what is told where there is none. */
 function showAnswer(place, answer, before = [], typed = null) {
   const { output, told } = answer;
-  const text = output ? folded("The report, as the program prints it", printed(output)) : null;
+  const text = output ? folded(reportBy(answer.stated), printed(output)) : null;
   if (text && !before.length) text.open = true;
   place.replaceChildren(
     ...refusalOf(answer, typed),
@@ -86,6 +97,9 @@ export function area(text, rows = 4) {
 
 const violated = (item) => verdictOf(sentence(item, "none"));
 
+/** What the mark of bounds means, where one of them has it. */
+const wideNote = (bounds) => (bounds.some((it) => it.wide.length) ? [say(WIDE_MEANS)] : []);
+
 /** The picture of the bounds of one budget, and what they say. */
 function boundsOfBudget(bounds, number) {
   const goods = bounds.map(({ name, lower, upper }) => ({
@@ -120,11 +134,12 @@ function demandQuestion(client, file, table) {
   ], async (place) => {
     const typed = { name, bytes: bytesOf(field.value) };
     const answer = await client.answer(["demand", file.name, name], [file, typed]);
-    const bounds = demandBounds(answer.output, table.goods, table.quantityPlaces);
+    const bounds = demandBounds(answer.output, table.goods, table.quantityPlaces, answer.stated);
     const shown = [];
     for (let at = 0; at < bounds.length; at += table.goods.length) {
       shown.push(...boundsOfBudget(bounds.slice(at, at + table.goods.length), at / table.goods.length + 1));
     }
+    shown.push(...wideNote(bounds));
     if (answer.status === 0 && !bounds.length) shown.push(violated("demand"));
     showAnswer(place, answer, shown, typed);
   });
@@ -139,12 +154,14 @@ export function pricePlacesOf(text) {
 
 /** Bounds of welfare as a table, and in words for the first observation. */
 function boundsByObservation(bounds) {
-  const told = (value) => (value === null ? "withheld" : withDecimal(value));
-  const rows = bounds.map((it) => [String(it.record), it.observation, told(it.lower), told(it.upper), it.at]);
+  const told = (it, side) =>
+    it[side] === null ? "withheld" : `${withDecimal(it[side])}${it.wide.includes(side) ? ` ${WIDE}` : ""}`;
+  const rows = bounds.map((it) => [String(it.record), it.observation, told(it, "lower"), told(it, "upper"), it.at]);
   const names = ["record", "observation", "at least", "at most", "by the bundle of"];
   return [
     tableOf(names, rows, "what it costs to be as well off"),
     say(`In words, of the first row: ${welfareSays(bounds[0])}`),
+    ...wideNote(bounds),
   ];
 }
 
@@ -160,7 +177,7 @@ function welfareQuestion(client, file, table) {
   ], async (place) => {
     const typed = { name, bytes: bytesOf(field.value) };
     const answer = await client.answer(["welfare", file.name, name], [file, typed]);
-    const bounds = welfareBounds(answer.output, pricePlacesOf(field.value) + table.quantityPlaces);
+    const bounds = welfareBounds(answer.output, pricePlacesOf(field.value) + table.quantityPlaces, answer.stated);
     const shown = answer.status !== 0 ? [] : bounds.length ? boundsByObservation(bounds) : [violated("welfare")];
     showAnswer(place, answer, shown, typed);
   });
@@ -261,7 +278,7 @@ function levelQuestion(client, file, hasOwnMoney) {
     const records = parseRecords(new TextDecoder().decode(held.bytes), ",");
     place.replaceChildren(
       make("p", { className: "note", textContent: `With a column e of ${level.value} added to every record:` }),
-      tableAnswers(answer.output, new Purchases(records), certificate, hasOwnMoney),
+      tableAnswers(answer.output, new Purchases(records), certificate, hasOwnMoney, answer.stated),
     );
   });
 }

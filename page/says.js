@@ -4,30 +4,64 @@ import { sentence } from "./sentences.js";
 
 export const isWithheld = (text) => text.startsWith("withheld");
 
-/** The bounds on each good in a report of demand, in the units of the file, as exact texts. */
-export function demandBounds(output, goods, places) {
+/** The mark of what `rp` itself withholds, and what it means. */
+export const WIDE = "(wide)";
+export const WIDE_MEANS =
+  `${WIDE} marks what rp itself withholds, because an exact number of its own computation gets too long. The wider ` +
+  "edition, rp-wide, found evidence, which the checker takes; the verdict is as true.";
+
+/** What is said above a report: by which edition it is; `stated` is there where it is the wider one's. */
+export const reportBy = (stated) => `The report, as ${stated ? "rp-wide" : "the program"} prints it`;
+
+/** What the column `wide` of a table of many answers means. */
+export const WIDE_COLUMN =
+  "The column wide names what rp itself withholds and its wider edition, rp-wide, gives, with evidence that the " +
+  "checker takes.";
+
+/** Whether the homothetic verdict is given where `rp` itself withholds it; `stated` is what that writes, or nothing. */
+export const isWideTest = (output, stated) =>
+  Boolean(stated) && parseReport(stated).items.homothetic.verdict.startsWith("withheld") &&
+  !parseReport(output).items.homothetic.verdict.startsWith("withheld");
+
+/** Of bounds, and the same as `rp` itself writes them: each with the sides that `rp` withholds and these have. */
+export function withWide(bounds, stated) {
+  return bounds.map((it, at) => ({
+    ...it,
+    wide: ["lower", "upper"].filter((side) => it[side] !== null && stated?.[at]?.[side] === null),
+  }));
+}
+
+/**
+ * The bounds on each good in a report of demand, in the units of the file, as exact texts; `wide` are those that `rp`
+ * itself withholds, by what that writes.
+ */
+export function demandBounds(output, goods, places, stated = null) {
+  if (stated) return withWide(demandBounds(output, goods, places), demandBounds(stated, goods, places));
   return output.split("\n").flatMap((line) => {
     const it = /^good (\d+) lower (\S+|withheld \d+) upper (\S+|withheld \d+)$/.exec(line);
     if (!it) return [];
     const [lower, upper] = [it[2], it[3]].map((text) => (isWithheld(text) ? null : inUnits(text, places)));
-    return [{ name: goods[Number(it[1]) - 1], lower, upper }];
+    return [{ name: goods[Number(it[1]) - 1], lower, upper, wide: [] }];
   });
 }
 
 /** What the bounds on a good say. */
-export function demandSays({ name, lower, upper }) {
+export function demandSays({ name, lower, upper, wide = [] }) {
   const of = (bound, value) => (value === null
     ? sentence("demand", "bounds", { bound: `${bound} withheld` })
     : sentence("demand", "bounds", { bound }, { good: name, [bound]: withDecimal(value) }));
-  return [of("lower", lower), of("upper", upper)].map((it) => `${name}: ${it.says}`);
+  const marked = (bound) => (wide.includes(bound) ? ` ${WIDE}` : "");
+  return [["lower", lower], ["upper", upper]].map(([it, value]) => `${name}: ${of(it, value).says}${marked(it)}`);
 }
 
 const WELFARE = /^welfare prices (.*) observation (\d+) lower (\S+|withheld \d+) upper (\S+) at (\d+)$/;
 
 /**
- * The bounds of a report of welfare, in the units of money; `places` are those of the file, `record` counts new prices.
+ * The bounds of a report of welfare, in the units of money; `places` are those of the file, `record` counts new prices;
+ * `wide` are those that `rp` itself withholds, by what that writes.
  */
-export function welfareBounds(output, places) {
+export function welfareBounds(output, places, stated = null) {
+  if (stated) return withWide(welfareBounds(output, places), welfareBounds(stated, places));
   let record = 0;
   return output.split("\n").flatMap((line) => {
     const it = WELFARE.exec(line);
@@ -35,7 +69,7 @@ export function welfareBounds(output, places) {
     const [, , observation, lower, upper, at] = it;
     if (observation === "1") record += 1;
     const units = (text) => (isWithheld(text) ? null : inUnits(text, places));
-    return [{ record, observation, lower: units(lower), upper: units(upper), at }];
+    return [{ record, observation, lower: units(lower), upper: units(upper), at, wide: [] }];
   });
 }
 
@@ -88,18 +122,22 @@ export function firmSays(output) {
 
 const COST = /^bounds prices (.*) output (\S+) lower (\S+|withheld \d+) upper (?:(\d+) at (\d+)|none)$/;
 
-/** What the bounds on the costs of asked outputs say, in the units of money; `places` are those of money. */
-export function costSays(output, places) {
-  return output.split("\n").flatMap((line) => {
-    const it = COST.exec(line);
-    if (!it) return [];
+/**
+ * What the bounds on the costs of asked outputs say, in the units of money; `places` are those of money. A lower bound
+ * that `rp` itself withholds, by what that writes, is marked.
+ */
+export function costSays(output, places, stated = null) {
+  const matches = (text) => (text ?? "").split("\n").map((line) => COST.exec(line)).filter(Boolean);
+  const own = matches(stated);
+  return matches(output).map((it, number) => {
     const [, , , lower, upper, at] = it;
+    const mark = !isWithheld(lower) && own[number] && isWithheld(own[number][3]) ? ` ${WIDE}` : "";
     const below = isWithheld(lower)
       ? sentence("cost", "bounds", { bound: "lower withheld" })
       : sentence("cost", "bounds", { bound: "lower" }, { lower: withDecimal(inUnits(lower, places)) });
     const above = upper
       ? sentence("cost", "bounds", { bound: "upper" }, { at, upper: withDecimal(inUnits(upper, places)) })
       : sentence("cost", "bounds", { bound: "no upper" });
-    return [`${below.says} ${above.says}`];
+    return `${below.says}${mark} ${above.says}`;
   });
 }

@@ -5,14 +5,35 @@
 let loading = null;
 let library = null;
 
-function answerOne({ words, files }) {
-  return library.texts(words, files);
+/** What stands in the answer of a command where it withholds something of which the wider edition seeks evidence. */
+const WITHHELD = {
+  analyse: /^homothetic withheld /m,
+  certify: /"item":"homothetic","withheld":/,
+  trial: /^homothetic withheld/m,
+  demand: /"withheld":| withheld /,
+  welfare: /"withheld":| withheld /,
+  cost: / lower withheld /,
+};
+
+/**
+ * The answer of `rp`; where that withholds something, of the wider edition, and as `stated` what `rp` itself writes.
+ * With an `edition` that one alone is asked.
+ */
+function asked(words, files, edition) {
+  if (edition) return library.texts(words, files, edition === "rp-wide");
+  const own = library.texts(words, files);
+  if (own.status !== 0 || !WITHHELD[words[0]]?.test(own.output)) return own;
+  return { ...library.texts(words, files, true), stated: own.output };
+}
+
+function answerOne({ words, files, edition }) {
+  return asked(words, files, edition);
 }
 
 function answerPanel({ words, households, more }) {
   return households.map(({ household, bytes }) => ({
     household,
-    ...library.texts(words, [{ name: "table.csv", bytes }, ...more]),
+    ...asked(words, [{ name: "table.csv", bytes }, ...more]),
   }));
 }
 

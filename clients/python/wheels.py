@@ -133,7 +133,7 @@ def write_wheel(folder, extra=(), made=None, of_platform=None):
     with zipfile.ZipFile(os.path.join(folder, wheel), "w", zipfile.ZIP_DEFLATED) as it:
         for name, data in sorted(files.items()):
             head = zipfile.ZipInfo(name, date)
-            runs = name in (f"{NAME}/rp", f"{NAME}/rp.exe")
+            runs = name in {f"{NAME}/{it}" for it in ("rp", "rp-wide", "rp.exe", "rp-wide.exe")}
             head.external_attr, head.compress_type, head.create_system = (0o100755 if runs else 0o100644) << 16, zipfile.ZIP_DEFLATED, 3
             it.writestr(head, data)
     return wheel

@@ -1,7 +1,7 @@
 *! version 0.13.0  rptest: revealed preference tests by the program rp
 program define rptest, rclass sortpreserve
     version 13
-    syntax [if] [in], Prices(varlist numeric) Quantities(varlist numeric) [BY(varlist) LEVels(varname numeric) OBS(varname) DIGITS(numlist integer max=2 >=0 <=6) PUMP POWer(integer 0) SEED(integer 1) NEWprices(numlist >0) MONEY(numlist >0 max=1) EXE(string) GENerate(name) SAVing(string)]
+    syntax [if] [in], Prices(varlist numeric) Quantities(varlist numeric) [BY(varlist) LEVels(varname numeric) OBS(varname) DIGITS(numlist integer max=2 >=0 <=6) PUMP POWer(integer 0) SEED(integer 1) NEWprices(numlist >0) MONEY(numlist >0 max=1) EXE(string) NOWIDE GENerate(name) SAVing(string)]
     if "`c(os)'" == "Windows" {
         display as error "rptest starts the program by a script for sh, which Windows has not: run rp.exe by shell, as docs/USING.md tells"
         exit 198
@@ -34,12 +34,12 @@ program define rptest, rclass sortpreserve
 
     * What is told of each group: numbers, texts, and, at new prices, the bounds of each good or of each observation.
     local numbers "status garp afriat homothetic quasilinear attained ccei pump power"
-    local texts "efficiency pump_ratio cycle message"
+    local texts "efficiency pump_ratio cycle wide message"
     local results "status garp afriat homothetic quasilinear attained ccei"
-    local told "efficiency cycle message"
+    local told "efficiency cycle wide message"
     if "`pump'" != "" {
         local results "`results' pump"
-        local told "efficiency pump_ratio cycle message"
+        local told "efficiency pump_ratio cycle wide message"
     }
     if `power' > 0 {
         local results "`results' power"
@@ -184,6 +184,9 @@ program define rptest, rclass sortpreserve
     if `welfare' {
         file write `file' "welfare `goods'" _n
     }
+    if "`nowide'" != "" {
+        file write `file' "nowide" _n
+    }
     file close `file'
     if "`newprices'" != "" {
         file open `file' using `"`macval(room)'/new"', write text replace
@@ -248,7 +251,7 @@ program define rptest, rclass sortpreserve
                 local of "`of' `kind' `variable'"
             }
         }
-        postfile `posted' `of' double(`results') str80 efficiency str80 pump_ratio str2045 cycle str200 message using `saving'
+        postfile `posted' `of' double(`results') str80 efficiency str80 pump_ratio str2045 cycle str80 wide str200 message using `saving'
     }
     tempname verdicts
     local small = `groups' <= 800
@@ -335,7 +338,7 @@ program define rptest, rclass sortpreserve
             foreach name in `results' {
                 local values "`values' (``name'')"
             }
-            post `posted' `key' `values' ("`efficiency'") ("`pump_ratio'") ("`cycle'") ("`message'")
+            post `posted' `key' `values' ("`efficiency'") ("`pump_ratio'") ("`cycle'") ("`wide'") ("`message'")
         }
         if "`by'" != "" & `small' {
             * A group is called by its values, one behind the other; the row of the matrix by what of them a name can have.
@@ -351,6 +354,7 @@ program define rptest, rclass sortpreserve
             return local pump_ratio`number' "`pump_ratio'"
             return local efficiency`number' "`efficiency'"
             return local cycle`number' "`cycle'"
+            return local wide`number' "`wide'"
             return local message`number' "`message'"
         }
         local number = `number' + 1
@@ -383,6 +387,7 @@ program define rptest, rclass sortpreserve
         return local efficiency "`efficiency'"
         return local pump_ratio "`pump_ratio'"
         return local cycle "`cycle'"
+        return local wide "`wide'"
         return local message "`message'"
         foreach name in `results' {
             return scalar `name' = ``name''

@@ -7,11 +7,12 @@
 #   rows      a line for each record of each table: the number of its group, a comma, and the record, group after group
 #   header    the first line of each table
 #   program   one line, the path of the program; where it is empty, the variable RP_EXEC names it, else it is rp on the path
-#   asks      a line for each question beside the verdicts: `pump`, `power SEED DRAWS`, and `demand GOODS` or `welfare GOODS`
+#   asks      a line for each question beside the verdicts: `pump`, `power SEED DRAWS`, and `demand GOODS` or `welfare GOODS`;
+#             and `nowide` where what the program withholds is not asked of rp-wide: that of RP_WIDE, else the one beside the program
 #   new       new prices, and for demand what is spent, where these are asked
-# and gets `results`, of each group its number and thirteen lines: status, garp, afriat, homothetic, quasilinear and attained
+# and gets `results`, of each group its number and fourteen lines: status, garp, afriat, homothetic, quasilinear and attained
 # (1, 0 or .), the efficiency index as the nearest double, but below 1 unless it is 1, the money pump ratio and the power as
-# doubles; as texts the index and the ratio as fractions, the cycle that violates GARP, and a message; then for demand two
+# doubles; as texts the index and the ratio as fractions, the cycle that violates GARP, what rp-wide gave and rp itself withholds, and a message; then for demand two
 # lines for each good, its bounds as doubles near them. For welfare it gets `bounds` too, a line with both for each record.
 # A number that is not there is a point. No text of these files, of the variable or of what the program says is read by a shell as more than a text.
 here=$PWD
@@ -26,17 +27,32 @@ case $rp in
   */*) rp=$here/$rp ;;
 esac
 export rp
-pump="" power="" new="" goods=0
+pump="" power="" new="" goods=0 wide=yes
 while read -r word first second; do
   case $word,$first,$second in
     pump,,) pump=yes ;;
+    nowide,,) wide="" ;;
     power,*[!0-9]*,* | power,*,*[!0-9]* | demand,*[!0-9]*, | welfare,*[!0-9]*,) exit 1 ;;
     power,?*,?*) power="$first $second" ;;
     demand,?*, | welfare,?*,) new=$word goods=$first ;;
     *) exit 1 ;;
   esac
 done <asks
-export pump power new
+# The wider edition: what RP_WIDE names, else what stands beside the program, or beside what that leads to.
+if [ -n "$wide" ]; then
+  wide=${RP_WIDE:-}
+  found=$(command -v -- "$rp" || :)
+  for it in "$found" "$(readlink -f -- "$found" 2>/dev/null)"; do
+    case $wide,$it in ,*/*) [ ! -x "${it%/*}/rp-wide" ] || wide=${it%/*}/rp-wide ;; esac
+    case $wide,$it in ,*/rp/out/*) [ ! -x "${it%/rp/out/*}/rp_wide/out/rp_wide" ] || wide=${it%/rp/out/*}/rp_wide/out/rp_wide ;; esac
+  done
+  case $wide in "" | /*) ;; */*) wide=$here/$wide ;; esac
+  more="rp-wide found no evidence either"
+  [ -n "$wide" ] || more="rp-wide may give it, which is not beside rp"
+else
+  more="rp-wide may give it"
+fi
+export pump power new wide
 mkdir tables || exit 1
 trap 'cd "$here"; rm -rf "$room/tables"' EXIT
 awk -F, '
@@ -51,10 +67,19 @@ ls | sed 's/[.]csv$//' | sort -n | xargs -P "$(nproc 2>/dev/null || echo 2)" -n 
   for n do
     "$rp" analyse "$n.csv" >"$n.out" 2>"$n.err" </dev/null
     echo $? >"$n.status"
+    if [ -n "$wide" ] && grep -q "^homothetic withheld " "$n.out"; then
+      mv "$n.out" "$n.stated"
+      "$wide" analyse "$n.csv" >"$n.out" 2>"$n.err" </dev/null
+      echo $? >"$n.status"
+    fi
     [ -z "$pump" ] || "$rp" pump "$n.csv" >"$n.pump" 2>"$n.why" </dev/null || echo "pump $(cat "$n.why")" >>"$n.less"
     # shellcheck disable=SC2086
     [ -z "$power" ] || "$rp" power "$n.csv" $power >"$n.power" 2>"$n.why" </dev/null || echo "power $(cat "$n.why")" >>"$n.less"
     [ -z "$new" ] || "$rp" "$new" "$n.csv" ../new >"$n.new" 2>"$n.why" </dev/null || echo "$new $(cat "$n.why")" >>"$n.less"
+    if [ -n "$new" ] && [ -n "$wide" ] && grep -q " withheld " "$n.new"; then
+      mv "$n.new" "$n.held"
+      "$wide" "$new" "$n.csv" ../new >"$n.new" 2>"$n.why" </dev/null || echo "$new $(cat "$n.why")" >>"$n.less"
+    fi
   done' sh 2>/dev/null
 # How many times ten the new prices are to be taken to be whole.
 places=0
@@ -62,7 +87,7 @@ places=0
   for (at = 1; at <= goods; at++) { part = $at; if (!sub(/^[^.]*[.]/, "", part)) part = ""; sub(/0+$/, "", part); if (length(part) > most) most = length(part) }
 } END { print most + 0 }' ../new)
 # shellcheck disable=SC2012
-ls | sed -n 's/[.]csv$//p' | sort -n | awk -v pump="$pump" -v power="$power" -v new="$new" -v goods="$goods" -v places="$places" '
+ls | sed -n 's/[.]csv$//p' | sort -n | awk -v pump="$pump" -v power="$power" -v new="$new" -v goods="$goods" -v places="$places" -v more="$more" '
   function value(word) { return word == "holds" || word == "model" ? 1 : word == "violated" || word == "none" ? 0 : "." }
   # The double nearest to a fraction of whole numbers below 2^53, where `over` is 1, and else one near it; but only 1 reads 1.
   function near(fraction, over,   part, found) {
@@ -73,6 +98,12 @@ ls | sed -n 's/[.]csv$//p' | sort -n | awk -v pump="$pump" -v power="$power" -v 
     return sprintf("%.17g", found)
   }
   function given(bound) { return bound == "" ? "." : bound }
+  # How many withheld values the lines of a file have.
+  function held(file,   line, found) {
+    while ((getline line < file) > 0) found += gsub(/ withheld /, " withheld ", line)
+    close(file)
+    return found + 0
+  }
   # Puts the numbers behind the words lower and upper of a line, over the power of ten of their unit, into least and most.
   function ends(line, over,   word, count, at) {
     least = most = "."
@@ -85,7 +116,7 @@ ls | sed -n 's/[.]csv$//p' | sort -n | awk -v pump="$pump" -v power="$power" -v 
   # How many records each group has.
   FILENAME != "-" { split($0, cell, ","); count_of[cell[1]]++; next }
   {
-    group = $0; status = "."; message = ""; last = ""; efficiency = ""; cycle = ""; ccei = "."; ratio = ""; share = "."
+    group = $0; status = "."; message = ""; last = ""; efficiency = ""; cycle = ""; wide = ""; ccei = "."; ratio = ""; share = "."
     split("", is); is["garp"] = is["afriat"] = is["homothetic"] = is["quasilinear"] = is["attained"] = "."
     if ((getline status < (group ".status")) < 1) status = "."
     close(group ".status")
@@ -102,11 +133,13 @@ ls | sed -n 's/[.]csv$//p' | sort -n | awk -v pump="$pump" -v power="$power" -v 
       }
       if (word[1] == "observations") tens = word[7]
       if (last == "garp violated" && word[1] == "cycle") cycle = substr(line, 7)
-      if (word[2] == "withheld") message = line
+      if (word[2] == "withheld") message = line (word[1] == "homothetic" ? "; " more : "")
       last = line
     }
     close(group ".out")
     if (status == "0" && (is["garp"] == "." || efficiency == "")) { status = "."; message = "what was called as rp gave no answer of rp" }
+    if (status == "0" && is["homothetic"] != "." && held(group ".stated")) wide = "homothetic"
+    if (status == "0" && held(group ".held") > held(group ".new")) wide = wide (wide == "" ? "" : " ") new
     while (status == "0" && (getline line < (group ".less")) > 0) {
       at = index(line, own)
       message = message (message == "" ? "" : "; ") (at ? substr(line, 1, at - 1) substr(line, at + length(own)) : line)
@@ -133,7 +166,7 @@ ls | sed -n 's/[.]csv$//p' | sort -n | awk -v pump="$pump" -v power="$power" -v 
     gsub(/[^A-Za-z0-9 .,:;_\/()+-]/, "?", message)
     gsub(/[^0-9 ]/, "?", cycle)
     print group; print status; print is["garp"]; print is["afriat"]; print is["homothetic"]; print is["quasilinear"]; print is["attained"]
-    print ccei; print near(ratio, 1); print share; print efficiency; print ratio; print cycle; print substr(message, 1, 200)
+    print ccei; print near(ratio, 1); print share; print efficiency; print ratio; print cycle; print wide; print substr(message, 1, 200)
     for (good = 1; new == "demand" && good <= goods; good++) { print given(low[good]); print given(high[good]) }
     for (at = 1; new == "welfare" && at <= count_of[group]; at++) print given(low[at]) " " given(high[at]) > "../bounds"
   }

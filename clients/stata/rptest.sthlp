@@ -7,7 +7,7 @@
 
 {p 8 16 2}{cmd:rptest} [{it:if}] [{it:in}]{cmd:,} {opt p:rices(varlist)} {opt q:uantities(varlist)}
 [{opt by(varlist)} {opt lev:els(varname)} {opt obs(varname)} {opt digits(# [#])} {opt pump} {opt pow:er(#)} {opt seed(#)}
-{opt new:prices(# # ..)} {opt money(#)} {opt gen:erate(stub)} {opt sav:ing(filename[, replace])} {opt exe(filename)}]
+{opt new:prices(# # ..)} {opt money(#)} {opt gen:erate(stub)} {opt sav:ing(filename[, replace])} {opt exe(filename)} {opt nowide}]
 
 {title:Description}
 
@@ -48,6 +48,9 @@ observation.
 {phang}{opt exe(filename)} is the program; else the environment variable RP_EXEC names it, else it is rp on the path. The script
 rptest.sh, which lies beside this command, runs it.
 
+{phang}{opt nowide} asks the program alone. Else what it withholds is asked of rp-wide, its wider edition: the one that the environment
+variable RP_WIDE names, else the one that stands beside the program.
+
 {title:Stored results}
 
 {pstd}Without {opt by()}: {cmd:r(status)}, {cmd:r(garp)}, {cmd:r(afriat)}, {cmd:r(homothetic)}, {cmd:r(quasilinear)} and
@@ -55,8 +58,8 @@ rptest.sh, which lies beside this command, runs it.
 {cmd:r(ccei)}, the double nearest to the index, but below 1 unless it is 1, where asked {cmd:r(pump)}, {cmd:r(power)} and for each good
 {cmd:r(low}{it:#}{cmd:)} and {cmd:r(high}{it:#}{cmd:)}, and the macros {cmd:r(efficiency)}, the exact
 fraction, {cmd:r(pump_ratio)}, that of the money pump, {cmd:r(cycle)}, the numbers of observations within the table of a cycle that violates
-the axiom, and {cmd:r(message)}. With {opt by()}: {cmd:r(group}{it:#}{cmd:)}, {cmd:r(efficiency}{it:#}{cmd:)}, {cmd:r(pump_ratio}{it:#}{cmd:)},
-{cmd:r(cycle}{it:#}{cmd:)} and {cmd:r(message}{it:#}{cmd:)}, and always {cmd:r(groups)}, {cmd:r(held)}, how many meet the axiom,
+the axiom, {cmd:r(wide)}, what rp-wide gave and rp itself withholds (homothetic, demand, welfare), and {cmd:r(message)}. With {opt by()}: {cmd:r(group}{it:#}{cmd:)}, {cmd:r(efficiency}{it:#}{cmd:)}, {cmd:r(pump_ratio}{it:#}{cmd:)},
+{cmd:r(cycle}{it:#}{cmd:)}, {cmd:r(wide}{it:#}{cmd:)} and {cmd:r(message}{it:#}{cmd:)}, and always {cmd:r(groups)}, {cmd:r(held)}, how many meet the axiom,
 {cmd:r(without)}, how many have no verdict, and the matrix {cmd:r(verdicts)}, a row for each group, called by its values: status, garp, afriat,
 homothetic, quasilinear, attained and ccei, and what was asked beside them. Past 800 groups there is no matrix and no macro of a group: say {opt generate()} or
 {opt saving()}.

@@ -33,6 +33,7 @@ import {
 } from "./reports.js";
 import { Runs } from "./runs.js";
 import {
+  WIDE,
   costSays,
   demandBounds,
   demandSays,
@@ -408,7 +409,10 @@ test("bounds of a household in units with a decimal beside each, and none where 
     "observations 1 goods 1 places 0 1\ngarp holds\nranks 1\ndemand prices 2 expenditure 60\nbelow none\n" +
     "strict none\ninner 30 over 1\ngood 1 lower 100/3 upper withheld 3\nlower x 30 y none over 1\n";
   const rows = boundRows("demand", { household: "u", status: 0, output, told: "" }, ["bread"], 0);
-  assert.deepEqual(rows, [["u", "0", "1", "bread", "10/3", "3.333333", "withheld", "", ""]]);
+  assert.deepEqual(rows, [["u", "0", "1", "bread", "10/3", "3.333333", "withheld", "", "", ""]]);
+  const stated = output.replace("lower 100/3", "lower withheld 2");
+  const [wide] = boundRows("demand", { household: "u", status: 0, output, told: "", stated }, ["bread"], 0);
+  assert.deepEqual(wide, ["u", "0", "1", "bread", "10/3", "3.333333", "withheld", "", "lower", ""]);
   const none = boundRows("demand", { household: "u", status: 0, output: REPORT, told: "" }, ["bread"], 0);
   assert.equal(none[0].at(-1), "the axiom is violated, so there are no bounds");
 });
@@ -437,21 +441,72 @@ test("welfare, demand, utility and the money pump in words, in the units of the 
     "welfare prices 15 observation 2 lower withheld 3 upper 300 at 2\n";
   const found = welfareBounds(welfare, 2);
   assert.deepEqual(found, [
-    { record: 1, observation: "1", lower: "25/6", upper: "9/2", at: "2" },
-    { record: 1, observation: "2", lower: null, upper: "3", at: "2" },
+    { record: 1, observation: "1", lower: "25/6", upper: "9/2", at: "2", wide: [] },
+    { record: 1, observation: "2", lower: null, upper: "3", at: "2", wide: [] },
   ]);
   const [first, second] = found.map(welfareSays);
   assert.match(first, /^Whoever .* needs at least 25\/6 \(about 4\.1666\) .* as at observation 1\./);
   assert.match(first, / the bundle of observation 2 .* costs 9\/2 \(4\.5\)/);
   assert.match(second, /^A number got longer .* costs 3 at the new prices/);
   const bounds = demandBounds("good 1 lower 5 upper withheld 3\n", ["tea"], 1);
-  assert.deepEqual(bounds, [{ name: "tea", lower: "1/2", upper: null }]);
+  assert.deepEqual(bounds, [{ name: "tea", lower: "1/2", upper: null, wide: [] }]);
   assert.match(demandSays(bounds[0])[0], /^tea: Nobody .* less of tea there than 1\/2 \(0\.5\)/);
   assert.match(demandSays(bounds[0])[1], /no verdict/);
   assert.match(utilitySays("at 1 value -12\n", false)[0], /^Bundle 1: -12\. /);
   const pumped = "observations 2 goods 2 places 0 0\npump 1/5\ncycle 1 2 1\nvalues 0 0\n";
   assert.equal(pumpSays(pumped).head, "1/5 (0.2)");
   assert.match(pumpSays("observations 1 goods 2 places 0 0\npump 0\ncycle 1 1\nvalues 0\n").head, /^0: nothing/);
+});
+
+test("what rp withholds and rp-wide gives is marked", () => {
+  const good = "good 1 lower 5 upper withheld 3\n";
+  const [demand] = demandBounds(good, ["tea"], 1, "good 1 lower withheld 2 upper withheld 3\n");
+  assert.deepEqual(demand.wide, ["lower"]);
+  assert.deepEqual(demandSays(demand).map((it) => it.endsWith(WIDE)), [true, false]);
+  assert.deepEqual(demandBounds(good, ["tea"], 1, good)[0].wide, []);
+  const line = (lower) => `welfare prices 15 observation 1 lower ${lower} upper 450 at 1\n`;
+  assert.deepEqual(welfareBounds(line("5"), 2, line("withheld 4"))[0].wide, ["lower"]);
+  const bounds = "bounds prices 1 output 1 lower 5 upper 40 at 2\nlower x 1 y none over 1\n";
+  const [said] = costSays(bounds, 0, "bounds prices 1 output 1 lower withheld 3 upper 40 at 2\n");
+  assert.ok(said.includes(`${WIDE} `) && !costSays(bounds, 0, bounds)[0].includes(WIDE));
+  const report = (words) => REPORT.replace(/homothetic violated\nstart 1\ncycle 1 2 1/, `homothetic ${words}`);
+  assert.notEqual(report(""), REPORT);
+  const given = { household: "u", status: 0, told: "", output: report("holds\nvalues 1 1") };
+  assert.equal(rowOf(given).wide, "");
+  assert.equal(rowOf({ ...given, stated: report("withheld steps 2 from 1 to 2") }).wide, "homothetic");
+  const withheld = report("withheld steps 2 from 1 to 2");
+  assert.equal(rowOf({ ...given, output: withheld, stated: withheld }).wide, "");
+});
+
+test("the worker asks the wider edition where rp withholds something that it seeks, and says both", () => {
+  const source = readFileSync(new URL("worker.js", import.meta.url), "utf8");
+  const answers = { rp: "", wide: "more" };
+  const asked = [];
+  const texts = (words, files, wide = false) => {
+    asked.push(wide);
+    return { status: 0, output: wide ? answers.wide : answers.rp, told: "" };
+  };
+  const begin = new Function("load", "postMessage", "self", `${source}; library = self.library; return asked;`);
+  const answer = begin(null, null, { library: { texts } });
+  const tries = [
+    ["analyse", "garp holds\nhomothetic withheld steps 2 from 3 to 1\n", true],
+    ["analyse", "garp holds\nafriat withheld at 3\nhomothetic holds\n", false],
+    ["certify", '{"items":[{"item":"homothetic","withheld":[2,3,1]}]}', true],
+    ["certify", '{"items":[{"item":"afriat","withheld":3}]}', false],
+    ["demand", "good 1 lower withheld 3 upper 5\n", true],
+    ["welfare", '{"lower":{"withheld":"3"}}', true],
+    ["cost", "bounds prices 1 output 1 lower withheld 3 upper none\n", true],
+    ["random", "random withheld 5\n", false],
+  ];
+  for (const [command, output, isWide] of tries) {
+    answers.rp = output;
+    asked.length = 0;
+    const given = answer([command, "t.csv"], []);
+    assert.deepEqual(asked, isWide ? [false, true] : [false], `${command}: ${output}`);
+    assert.deepEqual([given.output, given.stated], isWide ? ["more", output] : [output, undefined]);
+  }
+  assert.equal(answer(["demand"], [], "rp").output, answers.rp);
+  assert.equal(answer(["demand"], [], "rp-wide").output, "more");
 });
 
 test("a line is split into words as by a shell", () => {

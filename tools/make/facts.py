@@ -76,9 +76,19 @@ def value_of(written, known):
     return int(power[1]) ** int(power[2]) if "^" in plain else int(power[1]) << int(power[2])
 
 
+def modules_used():
+    """Returns the modules of limits that some other crate names: the program keeps no limit of another."""
+    found = set()
+    for at, _, names in os.walk(f"{TOP}/crates"):
+        if "/rp_limits" not in at:
+            for name in (it for it in names if it.endswith((".rt", ".antt"))):
+                found.update(re.findall(r"rp_limits(?:::|\.specs\.declared\.)(\w+)", text(os.path.relpath(f"{at}/{name}", f"{TOP}/crates"))))
+    return found
+
+
 def limits():
-    found = []
-    for name in sorted(it for it in os.listdir(f"{TOP}/crates/{LIMITS}") if it != "lib.rt"):
+    found, used = [], modules_used()
+    for name in sorted(it for it in os.listdir(f"{TOP}/crates/{LIMITS}") if it.removesuffix(".rt") in used):
         file = f"{LIMITS}/{name}"
         says = {constant: sentence(doc) for doc, constant in re.findall(r"((?:^///[^\n]*\n)+)^pub const (\w+)", text(file), re.M)}
         law = need(rf"^pub fn {LAW}\(\)\n(.*?)^\{{\}}", file)[1]

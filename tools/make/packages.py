@@ -139,8 +139,8 @@ R_INSIDE = """/* The library inside the package: the one of onefile/. */
 
 #include "inside.h"
 
-rp_call *revealed_inside(void) {
-    return rp_answer;
+rp_call *revealed_inside(int wide) {
+    return wide ? rp_answer_wide : rp_answer;
 }
 """
 

@@ -4,6 +4,7 @@ from __future__ import annotations
 
 import json
 import os
+import re
 from fractions import Fraction
 from typing import Any, Callable, Iterable, Iterator, Sequence
 
@@ -17,16 +18,29 @@ WORDS = {True: "holds", False: "violated", None: "withheld"}
 
 
 class Certificate:
-    """A certificate as the program wrote it: `data` are its bytes, and `items` its items as they stand there."""
+    """A certificate as the program wrote it: `data` are its bytes, and `items` its items as they stand there.
 
-    def __init__(self, data: bytes) -> None:
+    Where it is the wider edition's, `stated` is the certificate that `rp` itself writes, which withholds more; else None. `hint` is
+    what is said of a value that is withheld all the same.
+    """
+
+    def __init__(self, data: bytes, stated: bytes | None = None, hint: str = "") -> None:
         self.data = data
+        self.stated = None if stated is None else Certificate(stated)
+        self.hint = hint
         try:
             self.items: list[dict[str, Any]] = json.loads(data)["items"]
             if not all(isinstance(item["item"], str) for item in self.items):
                 raise TypeError
         except (ValueError, KeyError, TypeError, RecursionError):
             raise Unreadable(data.decode("utf-8", "replace"), "no certificate") from None
+
+    def beside(self) -> list[tuple[dict[str, Any], dict[str, Any]]]:
+        """Returns each item with that of `rp` itself, which is the same one where nothing is wider."""
+        stated = self.items if self.stated is None else self.stated.items
+        if len(stated) != len(self.items):
+            raise ValueError("another number of items than rp's")
+        return list(zip(self.items, stated))
 
     def save(self, path: str | os.PathLike[str]) -> None:
         """Writes it to a file."""
@@ -62,7 +76,8 @@ class Verdict:
     """The verdicts on a table.
 
     `garp`, `afriat`, `homothetic` and `quasilinear` are True or False, and None where the verdict is withheld: then
-    `reasons` says why. `efficiency` is the critical cost efficiency index, a Fraction, and `attained` whether the axiom
+    `reasons` says why. `wide` are the names of those that `rp` itself withholds: the wider edition gives them, with evidence that
+    the checker takes. `efficiency` is the critical cost efficiency index, a Fraction, and `attained` whether the axiom
     holds at it; `ccei` is the nearest float, but below 1 where the index is. `evidence` has, under
     the name of each test, what shows it: ranks, numbers and cycles by the labels of the rows. `ranks`, `cycle`, `utility` and
     `multipliers` are those of the axiom and of Afriat's numbers, or None. Where the table has levels, the axiom and Afriat's
@@ -79,6 +94,7 @@ class Verdict:
         self.evidence: dict[str, dict[str, Any]] = {}
         with reading(certificate.data):
             items = {item["item"]: item for item in certificate.items}
+            self.wide = [own["item"] for own, stated in certificate.beside() if is_wide(own, stated)]
             self.garp: bool = self._axiom("garp", items["garp"])
             self.afriat: bool | None = self._afriat(items["afriat"])
             self.efficiency, self.attained = self._efficiency(items["efficiency"])
@@ -127,7 +143,8 @@ class Verdict:
             return self._axiom("afriat", item)
         if "withheld" in item:
             label = self._walk([item["withheld"]])[0]
-            self.reasons["afriat"] = f"the numbers get past their width at {label!r}; they exist where garp is True"
+            why = f"the numbers get past their width at {label!r}; they exist where garp is True, and revealed.plain gives some, without a proof"
+            self.reasons["afriat"] = why
             self.evidence["afriat"] = {}
             return None
         money = utility_scale(self.table)
@@ -150,7 +167,8 @@ class Verdict:
         if "withheld" in item:
             steps, start, end = item["withheld"]
             start, end = self._walk([start, end])
-            self.reasons["homothetic"] = f"after {steps} steps the product from {start!r} to {end!r} gets past its width"
+            why = f"after {steps} steps the product from {start!r} to {end!r} gets past its width"
+            self.reasons["homothetic"] = hinted(why, self.certificate.hint)
             self.evidence["homothetic"] = {}
             return None
         if "cycle" in item:
@@ -174,7 +192,7 @@ class Verdict:
     def as_dict(self) -> dict[str, Any]:
         """Returns the verdicts by name."""
         names = ("garp", "afriat", "efficiency", "ccei", "attained", "homothetic", "quasilinear")
-        return {**{name: getattr(self, name) for name in names}, "reasons": dict(self.reasons)}
+        return {**{name: getattr(self, name) for name in names}, "wide": list(self.wide), "reasons": dict(self.reasons)}
 
     def plot(self, ax: Any = None, **more: Any) -> Any:
         """Draws the budget lines, the choices and the violating cycle of a table of two goods, with matplotlib; returns its axes."""
@@ -184,7 +202,7 @@ class Verdict:
 
     def __repr__(self) -> str:
         asked = [name for name in TESTS if name != "quasilinear" or not self.table.own_money]
-        lines = [f"{name} {WORDS[getattr(self, name)]}" for name in asked]
+        lines = [f"{name} {WORDS[getattr(self, name)]}{BY_WIDE if name in self.wide else ''}" for name in asked]
         lines.insert(2, f"efficiency {exact.written(self.efficiency)} attained {'yes' if self.attained else 'no'}")
         if self.cycle:
             lines.insert(1, "cycle " + " ".join(map(str, self.cycle)))
@@ -192,7 +210,17 @@ class Verdict:
         return "\n".join(told if self.proved else [*told, NO_PROOF])
 
 
+BY_WIDE = " (by rp-wide; rp itself withholds it)"
 NO_PROOF = "by plain whole numbers: no proof stands behind this, and verify looks at its evidence"
+
+
+def is_wide(own: dict[str, Any], stated: dict[str, Any]) -> bool:
+    """Whether an item or a bound is given where `rp` itself withholds it."""
+    return "withheld" in stated and "withheld" not in own
+
+
+def hinted(why: str, hint: str) -> str:
+    return f"{why}; {hint}" if hint else why
 
 
 def by_label(table: Sheet, values: Iterable[Any]) -> dict[Any, Any]:
@@ -245,7 +273,8 @@ class Demand:
 
     `bounds` has for each good the infimum and the supremum over all bundles on the budget with which the table still meets
     the axiom, as Fractions; one that is withheld is None, and `reasons` says why under (good, "lower") or (good, "upper").
-    `inner` is one such bundle, and `below` and `strict` are the labels of the rows that the budget is preferred to.
+    `wide` are the bounds that `rp` itself withholds, in the same form. `inner` is one such bundle, and `below` and `strict` are the
+    labels of the rows that the budget is preferred to.
     """
 
     def __init__(
@@ -259,9 +288,11 @@ class Demand:
         inner: dict[str, Fraction] | None = None,
         bounds: dict[str, tuple[Fraction | None, Fraction | None]] | None = None,
         reasons: dict[tuple[str, str], str] | None = None,
+        wide: Sequence[tuple[str, str]] = (),
     ) -> None:
         self.label, self.prices, self.expenditure, self.garp = label, prices, expenditure, garp
         self.below, self.strict, self.inner, self.bounds, self.reasons = below, strict, inner, bounds, reasons or {}
+        self.wide = list(wide)
 
     def __repr__(self) -> str:
         if self.bounds is None:
@@ -274,7 +305,8 @@ class Welfare:
     """What it costs at new prices to be as well off as at each row: `lower`, `upper` and `at` by the labels of the rows.
 
     It is at least `lower` and at most `upper`, which the bundle of the row `at` costs. A lower bound that is withheld is
-    None, and `reasons` says why. Where the axiom fails, `garp` is False and the rest is None.
+    None, and `reasons` says why; `wide` are the rows whose lower bound `rp` itself withholds. Where the axiom fails, `garp` is False
+    and the rest is None.
     """
 
     def __init__(
@@ -286,9 +318,10 @@ class Welfare:
         upper: dict[Any, Fraction] | None = None,
         at: dict[Any, Any] | None = None,
         reasons: dict[Any, str] | None = None,
+        wide: Sequence[Any] = (),
     ) -> None:
         self.label, self.prices, self.garp = label, prices, garp
-        self.lower, self.upper, self.at, self.reasons = lower, upper, at, reasons or {}
+        self.lower, self.upper, self.at, self.reasons, self.wide = lower, upper, at, reasons or {}, list(wide)
 
     def __repr__(self) -> str:
         if self.lower is None or self.upper is None:
@@ -304,43 +337,45 @@ def withheld(step: int | str) -> str:
 def demands(table: Table, new: Sheet, certificate: Certificate) -> Answers:
     """Returns the demand of each record of new prices."""
     with reading(certificate.data):
-        first, *items = certificate.items
+        (first, _), *items = certificate.beside()
         if len(items) != len(new.rows):
             raise ValueError(f"{len(items)} answers for {len(new.rows)} budgets")
-        found = [_demand(table, new, label, item) for label, item in zip(new.labels, items)]
+        found = [_demand(table, new, label, item, stated, certificate.hint) for label, (item, stated) in zip(new.labels, items)]
         return answers(found, table, certificate, first)
 
 
-def _demand(table: Table, new: Sheet, label: Any, item: dict[str, Any]) -> Demand:
+def _demand(table: Table, new: Sheet, label: Any, item: dict[str, Any], stated: dict[str, Any], hint: str) -> Demand:
     walk, quantity, price = walk_of(table), table.quantity_scale, new.scale("p_")
     prices = named_prices(table, item, price)
     expenditure = Fraction(exact.whole_of(item["expenditure"]), price * quantity)
     if "cycle" in item:
         return Demand(label, prices, expenditure, False)
-    bounds, reasons = {}, {}
-    for good, pair in strictly(table.goods, item["goods"]):
+    bounds, reasons, wide = {}, {}, []
+    for good, (pair, other) in strictly(table.goods, list(strictly(item["goods"], stated["goods"]))):
         for name in ("lower", "upper"):
             if "withheld" in pair[name]:
-                reasons[good, name] = withheld(pair[name]["withheld"])
+                reasons[good, name] = hinted(withheld(pair[name]["withheld"]), hint)
+            elif is_wide(pair[name], other[name]):
+                wide.append((good, name))
         bounds[good] = (bound_value(pair["lower"], quantity), bound_value(pair["upper"], quantity))
     den = exact.whole_of(item["inner"]["den"]) * quantity
     inner = {good: Fraction(exact.whole_of(number), den) for good, number in strictly(table.goods, item["inner"]["num"])}
-    return Demand(label, prices, expenditure, True, walk(item["below"]), walk(item["strict"]), inner, bounds, reasons)
+    return Demand(label, prices, expenditure, True, walk(item["below"]), walk(item["strict"]), inner, bounds, reasons, wide)
 
 
 def welfares(table: Table, new: Sheet, certificate: Certificate) -> Answers:
     """Returns the welfare bounds of each record of new prices."""
     with reading(certificate.data):
-        first, *items = certificate.items
+        (first, _), *items = certificate.beside()
         if len(items) != len(new.rows) * len(table):
             raise ValueError(f"{len(items)} answers for {len(new.rows)} prices and {len(table)} observations")
         by_new = [items[number * len(table) : (number + 1) * len(table)] for number in range(len(new.rows))]
-        found = [_welfare(table, new, label, own) for label, own in zip(new.labels, by_new)]
+        found = [_welfare(table, new, label, own, certificate.hint) for label, own in zip(new.labels, by_new)]
         return answers(found, table, certificate, first)
 
 
-def _welfare(table: Table, new: Sheet, label: Any, own: list[dict[str, Any]]) -> Welfare:
-    walk, price = walk_of(table), new.scale("p_")
+def _welfare(table: Table, new: Sheet, label: Any, pairs: list[tuple[dict[str, Any], dict[str, Any]]], hint: str) -> Welfare:
+    walk, price, own = walk_of(table), new.scale("p_"), [item for item, _ in pairs]
     money = price * table.quantity_scale
     prices = named_prices(table, own[0], price)
     if any("cycle" in item for item in own):
@@ -349,8 +384,9 @@ def _welfare(table: Table, new: Sheet, label: Any, own: list[dict[str, Any]]) ->
     lower = {row: bound_value(item["lower"], money) for row, item in zip(rows, own)}
     upper = {row: Fraction(exact.whole_of(item["upper"]), money) for row, item in zip(rows, own)}
     at = {row: walk([item["at"]])[0] for row, item in zip(rows, own)}
-    reasons = {row: withheld(item["lower"]["withheld"]) for row, item in zip(rows, own) if "withheld" in item["lower"]}
-    return Welfare(label, prices, True, lower, upper, at, reasons)
+    reasons = {row: hinted(withheld(item["lower"]["withheld"]), hint) for row, item in zip(rows, own) if "withheld" in item["lower"]}
+    wide = [row for row, (item, stated) in zip(rows, pairs) if is_wide(item["lower"], stated["lower"])]
+    return Welfare(label, prices, True, lower, upper, at, reasons, wide)
 
 
 def strictly(first: Sequence[Any], second: Sequence[Any]) -> Iterator[tuple[Any, Any]]:
@@ -413,14 +449,46 @@ class Part:
 
 
 class Patch:
-    """A patch that some type of a mixture has: its number and that of its budget, both from 1, and the share of the choices on that
-    budget which these types make there."""
+    """A patch: its number and that of its budget, both from 1, and a share of the choices on that budget: of all of them, the share
+    that falls there; of a mixture, what its types make there.
 
-    def __init__(self, number: int, budget: int, share: Fraction) -> None:
-        self.number, self.budget, self.share = number, budget, share
+    Where the patches themselves were asked for, `units` are so many of the budget's, and `sides` tells of each budget, by its label,
+    whether what is chosen in the patch costs less there than the income (`below`), just that (`on`), or more (`above`).
+    """
+
+    def __init__(self, number: int, budget: int, share: Fraction, units: int | None = None, sides: dict[Any, str] | None = None) -> None:
+        self.number, self.budget, self.share, self.units, self.sides = number, budget, share, units, sides
 
     def __repr__(self) -> str:
-        return f"<patch {self.number} of budget {self.budget}: {self.share}>"
+        told = "" if self.sides is None else f", {' '.join(self.sides.values())}"
+        return f"<patch {self.number} of budget {self.budget}: {self.share}{told}>"
+
+
+SIDES = re.compile(r"patch (\d+) budget (\d+) units (\d+) sides((?: (?:above|on|below))+)")
+
+
+def patches_of(choices: Choices, report: str) -> list[Patch]:
+    """Returns the patches that a report of `patches` tells, in their order."""
+    with reading(report):
+        head, *lines = report.splitlines()
+        told = re.fullmatch(r"budgets (\d+) patches (\d+) total (\d+)", head)
+        if told is None:
+            raise ValueError("no line on the patches")
+        budgets, count, total = map(exact.whole_of, told.groups())
+        if choices.per is not None and lines.pop(0) != f"apportioned per {choices.per}":
+            raise ValueError("another number of units")
+        labels = choices.budgets.labels
+        found = []
+        for line in lines:
+            own = SIDES.fullmatch(line)
+            if own is None:
+                raise ValueError("no line of a patch")
+            number, budget, units = map(exact.whole_of, own.groups()[:3])
+            sides = dict(strictly(labels, own[4].split()))
+            found.append(Patch(number, budget, Fraction(units, total), units, sides))
+        if len(found) != count or len(labels) != budgets or [it.number for it in found] != list(range(1, count + 1)):
+            raise ValueError("other patches than were told")
+        return found
 
 
 class RandomVerdict:
@@ -429,8 +497,7 @@ class RandomVerdict:
     `rational` is True, False, or None where the verdict is withheld: then `reason` says why. `share` is the greatest share
     of the choices that rational types make, a Fraction, 1 where `rational` is True. `parts` are the types that make it.
     `weights` are, where `rational` is False, the weight of each patch that shows that no more is possible: each rational
-    type weighs 1 or more. `patches` are those that these types have. What signs a patch has to the other budgets the program does
-    not tell. `choices` and `certificate` are what `verify` and `check` take.
+    type weighs 1 or more. `patches` are those that these types have; `revealed.patches` tells the sides of all. `choices` and `certificate` are what `verify` and `check` take.
     """
 
     def __init__(self, choices: Choices, certificate: Certificate) -> None:

@@ -7,7 +7,7 @@ import os
 from typing import Any, Callable, Union
 
 from . import advice, exact, program, verifier
-from .answers import Answers, Certificate, Checked, RandomVerdict, Verdict, demands, reading, utilities, walk_of, welfares
+from .answers import Answers, Certificate, Checked, Patch, RandomVerdict, Verdict, demands, patches_of, reading, utilities, walk_of, welfares
 from .catalogue import DRAWS, PER, SEED, span
 from .faults import BadData, Failed, NoFile, Refused
 from .measures import CostMinimisation, MenuVerdict, MoneyPump, Power, Trial
@@ -22,21 +22,22 @@ Explains = Callable[[Union[str, None], str, "dict[str, int]"], Exception]
 # ---- verdicts on a table
 
 
-def analyse(p: Any, q: Any = None, *, levels: Any = None, places: Any = None, numbers: Any = "exact", exe: Any = None) -> Verdict:
+def analyse(p: Any, q: Any = None, *, levels: Any = None, places: Any = None, numbers: Any = "exact", exe: Any = None, wide: bool = True) -> Verdict:
     """Returns the Verdict on prices p and quantities q: two lists of rows, two arrays, or two frames; or on a table alone.
 
     `levels` gives each row its level, in whole thousandths of what was spent, where the frame has no column `e`. `places` rounds
     each number to so many decimal places; two numbers, those of prices and of quantities. Without it nothing is rounded, and
     a float that has more than 6 places is refused, as 3.18 is, a binary fraction. `numbers="shortest"` takes each float as the
-    shortest decimal that gives it back.
+    shortest decimal that gives it back. What the program withholds its wider edition is asked for; `wide=False` asks the program
+    alone.
     """
     own = table(p, q, places=places, numbers=numbers, levels=levels)
-    return Verdict(own, _certificate(own, exe))
+    return Verdict(own, _certificate(["certify", TABLE], [own], exe, wide))
 
 
-def certify(p: Any, q: Any = None, *, levels: Any = None, places: Any = None, numbers: Any = "exact", exe: Any = None) -> Certificate:
+def certify(p: Any, q: Any = None, *, levels: Any = None, places: Any = None, numbers: Any = "exact", exe: Any = None, wide: bool = True) -> Certificate:
     """Returns the Certificate of these verdicts."""
-    return _certificate(table(p, q, places=places, numbers=numbers, levels=levels), exe)
+    return _certificate(["certify", TABLE], [table(p, q, places=places, numbers=numbers, levels=levels)], exe, wide)
 
 
 def first_contradiction(p: Any, q: Any = None, *, levels: Any = None, places: Any = None, numbers: Any = "exact", exe: Any = None) -> tuple[Any, Any] | None:
@@ -75,18 +76,28 @@ def power_of_test(
     return Power(own, out.encode(), seed, draws)
 
 
-def random_trial(seed: Any, rows: Any, goods: Any, *, exe: Any = None) -> Trial:
+def random_trial(seed: Any, rows: Any, goods: Any, *, exe: Any = None, wide: bool = True) -> Trial:
     """Returns the verdicts on a table of pseudorandom numbers: 1 to 256 rows of 1 to 16 goods."""
-    given = (("seed", seed, "SEED"), ("rows", rows, "ROWS"), ("goods", goods, "GOODS"))
-    words = [program.whole(value, name, *span("trial", word)) for name, value, word in given]
-    return Trial(program.answer(["trial", *map(str, words)], {}, exe).encode())
+    numbers = (("seed", seed, "SEED"), ("rows", rows, "ROWS"), ("goods", goods, "GOODS"))
+    words = [program.whole(value, name, *span("trial", word)) for name, value, word in numbers]
+    given = program.given(["trial", *map(str, words)], {}, exe, wide=wide)
+    return Trial(given.out.encode(), _stated(given))
 
 
 # ---- at new prices
 
 
 def demand_bounds(
-    p: Any, q: Any = None, new: Any = None, m: Any = None, *, levels: Any = None, places: Any = None, numbers: Any = "exact", exe: Any = None
+    p: Any,
+    q: Any = None,
+    new: Any = None,
+    m: Any = None,
+    *,
+    levels: Any = None,
+    places: Any = None,
+    numbers: Any = "exact",
+    exe: Any = None,
+    wide: bool = True,
 ) -> Answers:
     """Returns the Demand on each new budget: prices `new`, a row or a frame, and what is spent `m`, one number or one a row.
 
@@ -94,29 +105,31 @@ def demand_bounds(
     """
     own = table(p, q, places=places, numbers=numbers, levels=levels)
     sheet = _new(own, new, "p_", "m", m, forms=forms_of(places, numbers))
-    words = ["demand", TABLE, NEW, "--json"]
-    return demands(own, sheet, Certificate(_asked(words, own, sheet, exe)))
+    return demands(own, sheet, _certificate(["demand", TABLE, NEW, "--json"], [own, sheet], exe, wide))
 
 
-def welfare_bounds(p: Any, q: Any = None, new: Any = None, *, levels: Any = None, places: Any = None, numbers: Any = "exact", exe: Any = None) -> Answers:
+def welfare_bounds(
+    p: Any, q: Any = None, new: Any = None, *, levels: Any = None, places: Any = None, numbers: Any = "exact", exe: Any = None, wide: bool = True
+) -> Answers:
     """Returns the Welfare bounds at each row of new prices. It is refused on a table with levels."""
     own = table(p, q, places=places, numbers=numbers, levels=levels)
     sheet = _new(own, new, "p_", forms=forms_of(places, numbers))
-    words = ["welfare", TABLE, NEW, "--json"]
-    return welfares(own, sheet, Certificate(_asked(words, own, sheet, exe)))
+    return welfares(own, sheet, _certificate(["welfare", TABLE, NEW, "--json"], [own, sheet], exe, wide))
 
 
 def afriat_utility(p: Any, q: Any = None, bundles: Any = None, *, levels: Any = None, places: Any = None, numbers: Any = "exact", exe: Any = None) -> Answers:
     """Returns the utility of each bundle under the Verdict's Afriat numbers, in their scale: money where lambda is 1."""
     own = table(p, q, places=places, numbers=numbers, levels=levels)
     sheet = _new(own, bundles, "q_", forms=forms_of(places, numbers))
-    return utilities(own, sheet, _asked(["utility", TABLE, NEW], own, sheet, exe).decode())
+    return utilities(own, sheet, program.answer(["utility", TABLE, NEW], {TABLE: own.csv(), NEW: sheet.csv()}, exe, _explains(own, sheet)))
 
 
 # ---- firms, and choices of many people
 
 
-def cost_minimisation(technology: Any, asked: Any = None, *, places: Any = None, numbers: Any = "exact", exe: Any = None) -> CostMinimisation:
+def cost_minimisation(
+    technology: Any, asked: Any = None, *, places: Any = None, numbers: Any = "exact", exe: Any = None, wide: bool = True
+) -> CostMinimisation:
     """Returns whether a firm minimises its cost and maximises its profit, and what outputs cost at new prices of the inputs.
 
     The technology is a frame with `w_NAME` and `x_NAME` for each input, its price and how much of it was used, `y`, the output,
@@ -127,8 +140,8 @@ def cost_minimisation(technology: Any, asked: Any = None, *, places: Any = None,
     first = dict(zip(own.names, own.rows[0])) if own.rows else {}
     sheet = own.asked({name: first.get(name) for name in own.names if name.startswith("w_") or name == "y"} if asked is None else asked, places, numbers)
     files = {TECHNOLOGY: own.csv(), ASKED: sheet.csv()}
-    out = program.answer(["cost", TECHNOLOGY, ASKED], files, exe, _explains(own, sheet))
-    return CostMinimisation(own, sheet, out.encode(), asked is not None)
+    given = program.given(["cost", TECHNOLOGY, ASKED], files, exe, _explains(own, sheet), wide)
+    return CostMinimisation(own, sheet, given.out.encode(), asked is not None, _stated(given), given.hint)
 
 
 def random_utility(budgets: Any, choices: Any, per: Any = None, *, places: Any = None, numbers: Any = "exact", exe: Any = None) -> RandomVerdict:
@@ -142,6 +155,14 @@ def random_utility(budgets: Any, choices: Any, per: Any = None, *, places: Any =
     words = ["random", BUDGETS, CHOICES, "--json", *_units(own.per)]
     out = program.answer(words, {BUDGETS: own.budgets.csv(), CHOICES: own.choices.csv()}, exe, _explains_choices(own))
     return RandomVerdict(own, Certificate(out.encode()))
+
+
+def choice_patches(budgets: Any, choices: Any, per: Any = None, *, places: Any = None, numbers: Any = "exact", exe: Any = None) -> list[Patch]:
+    """Returns the patches that choices from budgets fall in: of each its budget, its share of that budget's choices, and the side of
+    every budget on which it lies. Budgets, choices and `per` are those of `random_utility`, and the patches have its numbers."""
+    own = Choices(budgets, choices, per, forms_of(places, numbers))
+    files = {BUDGETS: own.budgets.csv(), CHOICES: own.choices.csv()}
+    return patches_of(own, program.answer(["patches", BUDGETS, CHOICES, *_units(own.per)], files, exe, _explains_choices(own)))
 
 
 def menu_choices(choices: Any, per: Any = None, *, exe: Any = None) -> MenuVerdict:
@@ -210,19 +231,21 @@ def _as_firm(files: dict[str, bytes]) -> dict[str, bytes]:
     return {TECHNOLOGY: files[BUDGETS], ASKED: files[CHOICES]}
 
 
-def _certificate(own: Table, exe: Any) -> Certificate:
-    out = program.answer(["certify", TABLE], {TABLE: own.csv()}, exe, _explains(own))
-    return Certificate(out.encode())
+def _certificate(words: list[str], sheets: list[Sheet], exe: Any, wide: bool) -> Certificate:
+    """Returns the certificate that words over a table give, and over what is asked beside it."""
+    files = {name: own.csv() for name, own in zip((TABLE, NEW), sheets)}
+    given = program.given(words, files, exe, _explains(*sheets), wide)
+    return Certificate(given.out.encode(), _stated(given), given.hint)
+
+
+def _stated(given: program.Given) -> bytes | None:
+    return None if given.stated is None else given.stated.encode()
 
 
 def _new(own: Table, data: Any, prefix: str, more: str | None = None, values: Any = None, forms: Forms = EXACT) -> Sheet:
     if data is None:
         raise BadData("there are no new prices or bundles")
     return beside(own, data, prefix, more, values, forms)
-
-
-def _asked(words: list[str], own: Table, new: Sheet, exe: Any) -> bytes:
-    return program.answer(words, {TABLE: own.csv(), NEW: new.csv()}, exe, _explains(own, new)).encode()
 
 
 def _units(per: Any) -> list[str]:
@@ -348,4 +371,4 @@ def _read(path: Any) -> bytes:
 
 pairs, pump, power, trial = first_contradiction, money_pump, power_of_test, random_trial
 demand, welfare, utility = demand_bounds, welfare_bounds, afriat_utility
-cost, random, menus, checkrandom = cost_minimisation, random_utility, menu_choices, check
+cost, random, patches, menus, checkrandom = cost_minimisation, random_utility, choice_patches, menu_choices, check

@@ -1,4 +1,4 @@
-"""The program as a library in memory: one call over the bytes of files (`rp.h`), without a process and without a file.
+"""The program as a library in memory: a call over the bytes of files (`rp.h`), and the wider one, without a process and without a file.
 
 It is taken where it is found: the argument `exe` where that names one, the environment variable RP_LIBRARY, inside the package
 (`librp.so`, `rp.dll`), in the unpacked release that the package lies in, or where the system's loader looks; on Windows, whose
@@ -23,7 +23,7 @@ LOADED = [NAME] if sys.platform == "win32" else [NAME, "librp.so.0"]
 ROOM = 65_536
 # Statuses that the program has not, and what is said of them.
 SAID = {
-    8: b"the arguments of rp_answer do not fit together",
+    8: b"the arguments of the call do not fit together",
     70: b"the library stopped in the middle of the call, which no input is known to do",
 }
 
@@ -34,17 +34,28 @@ class Library:
     def __init__(self, path: str) -> None:
         self.path = path
         try:
-            self.answer = ctypes.CDLL(path).rp_answer
+            loaded = ctypes.CDLL(path)
+            self.answer = loaded.rp_answer
         except (OSError, AttributeError, ValueError) as wrong:
             raise NoProgram(f"{path} is no library of rp: {wrong}") from wrong
+        # Libraries up to 0.13.0 have not the wider call.
+        self.wider: Any = getattr(loaded, "rp_answer_wide", None)
         text, size, number = ctypes.c_char_p, ctypes.c_size_t, ctypes.POINTER(ctypes.c_uint64)
         room = ctypes.POINTER(ctypes.c_char)
-        self.answer.argtypes = [text, size, text, size, number, size, text, size, room, size, room, size, number, number]
-        self.answer.restype = ctypes.c_int32
+        for call in filter(None, (self.answer, self.wider)):
+            call.argtypes = [text, size, text, size, number, size, text, size, room, size, room, size, number, number]
+            call.restype = ctypes.c_int32
         self.rooms = threading.local()
 
     def run(self, program: str, words: Sequence[str], files: Mapping[str, bytes]) -> tuple[int, bytes, bytes]:
         """Returns the status of a call, and what it wrote to standard output and standard error, as a process would."""
+        return self._called(self.answer, words, files)
+
+    def run_wide(self, program: str, words: Sequence[str], files: Mapping[str, bytes]) -> tuple[int, bytes, bytes]:
+        """Returns the same of the wider call, which the library has to have."""
+        return self._called(self.wider, words, files)
+
+    def _called(self, call: Any, words: Sequence[str], files: Mapping[str, bytes]) -> tuple[int, bytes, bytes]:
         said = b"".join(word.encode() + b"\0" for word in words)
         names = b"".join(name.encode() + b"\0" for name in files)
         sizes = (ctypes.c_uint64 * max(len(files), 1))(*map(len, files.values()))
@@ -54,7 +65,7 @@ class Library:
             self.rooms.output, self.rooms.told = rooms
             lengths = [ctypes.c_uint64(), ctypes.c_uint64()]
             ends = [it for room in rooms for it in (room, len(room))]
-            status = self.answer(said, len(said), names, len(names), sizes, len(files), data, len(data), *ends, *map(ctypes.byref, lengths))
+            status = call(said, len(said), names, len(names), sizes, len(files), data, len(data), *ends, *map(ctypes.byref, lengths))
             if status in SAID:
                 return status, b"", SAID[status]
             if all(length.value <= len(room) for length, room in zip(lengths, rooms)):

@@ -15,25 +15,26 @@ import subprocess
 import sys
 import tempfile
 import threading
-from typing import IO, Any, Callable, Iterable, Iterator, Optional, Sequence
+from typing import IO, Any, Callable, Iterable, Iterator, Mapping, Optional, Sequence
 
-from . import worker
+from . import wider, worker
 from .exact import whole_of
 from .long_ends import ENDS
 from .long_files import Household, Stopped
+from .wider import Calls, Ended, Run
 
 TESTS = ("garp", "homothetic", "quasilinear")
-COLUMNS = ("status", "garp", "efficiency", "efficiency_floor", "attained", "homothetic", "quasilinear", "cycle")
+COLUMNS = ("status", "garp", "efficiency", "efficiency_floor", "attained", "homothetic", "quasilinear", "wide", "cycle")
 # A million, for 6 places.
 PLACES = 10**6
 TABLE = "table.csv"
-# How a call ended: its status, and what it wrote to standard output and standard error.
-Ended = tuple[int, bytes, bytes]
 # What one household comes to: the checksum of its table, its record as a line, and what is kept of it.
 Answer = tuple[bytes, bytes, "list[tuple[str, bytes]]"]
-Run = Callable[[Sequence[str], dict[str, bytes]], Ended]
-# What may be asked of each household. `verdicts` is the call that gives these, and `header` the columns of long files.
-ASKED: dict[str, Any] = {"verdicts": "analyse", "header": None, "pump": False, "power": None, "certificates": False}
+# What may be asked of each household. `verdicts` is the call that gives these, and `header` the columns of long files; `wide` is
+# the wider program, or True for the wider call of the library.
+ASKED: dict[str, Any] = {"verdicts": "analyse", "header": None, "pump": False, "power": None, "certificates": False, "wide": None}
+# What is kept under the name of a part of what the program itself said where the wider edition says more.
+STATED = "stated "
 ASKED.update(demand=None, welfare=None)
 # A block is tried so often where the process that has it ends.
 TRIES = 3
@@ -116,16 +117,34 @@ def columns(asked: dict[str, Any]) -> list[str]:
     return [asked["name"], *COLUMNS, *(it for it in more_of(asked) if it != "certificate"), "message"]
 
 
-def ended(data: bytes, run: Run, asked: dict[str, Any]) -> dict[str, Ended]:
-    """Returns how each call over a table ended: that for the verdicts, and where it gave them those for what is asked beside them."""
-    found = {"verdicts": run([asked["verdicts"], TABLE], {TABLE: data})}
+def ended(data: bytes, calls: Calls, asked: dict[str, Any]) -> dict[str, Ended]:
+    """Returns how each call over a table ended: that for the verdicts, and where it gave them those for what is asked beside them.
+    Where one is of the wider edition, that of the program itself stands beside it."""
+    found: dict[str, Ended] = {}
+
+    def ask(part: str, words: Sequence[str], files: dict[str, bytes]) -> None:
+        found[part], stated = wider.told(calls, words, {TABLE: data, **files})
+        if stated is not None:
+            found[STATED + part] = stated
+
+    ask("verdicts", [asked["verdicts"], TABLE], {})
     if found["verdicts"][0] == 0:
         for part, (words, files, _) in more_of(asked).items():
-            found[part] = run(words, {TABLE: data, **files})
+            ask(part, words, files)
     return found
 
 
-def answer(job: "tuple[Household, Optional[bytes]]", run: Run, asked: dict[str, Any]) -> Optional[Answer]:
+def wide_in(report: dict[str, str], calls: dict[str, Ended]) -> list[str]:
+    """Returns what the wider edition gives where the program itself withholds: `homothetic` by the report, and the names of bounds."""
+    found = []
+    if STATED + "verdicts" in calls and report.get("homothetic") in ("holds", "violated"):
+        found.append("homothetic")
+    bounds = [name for name in ("demand", "welfare") if STATED + name in calls]
+    withheld = wider.WITHHELD["demand"]
+    return found + [name for name in bounds if calls[name][1].count(withheld) < calls[STATED + name][1].count(withheld)]
+
+
+def answer(job: "tuple[Household, Optional[bytes]]", run: Calls, asked: dict[str, Any]) -> Optional[Answer]:
     """Returns the record of a household; None where its table has the checksum that is known, so that its record stands."""
     (_, name, rows, fault), known = job
     data = table(asked["header"], rows)
@@ -133,12 +152,13 @@ def answer(job: "tuple[Household, Optional[bytes]]", run: Run, asked: dict[str, 
     if summed == known:
         return None
     calls = {"verdicts": (4, b"", fault.encode())} if fault else ended(data, run, asked)
-    status, out, told = calls.pop("verdicts")
+    status, out, told = calls["verdicts"]
     messages = [said(told)] if status or said(told) else []
     found = found_in(out.decode("utf-8", "replace")) if status == 0 else {}
+    found["wide"] = " ".join(wide_in(found, calls))
     kept: list[tuple[str, bytes]] = []
-    for part, (end, out, told) in calls.items():
-        file = more_of(asked)[part][2]
+    for part, (_, _, file) in more_of(asked).items() if status == 0 else ():
+        end, out, told = calls[part]
         if end == 0:
             found[part] = value_of(part, out)
             kept += [(file, out)] if file else []
@@ -152,24 +172,29 @@ def answer(job: "tuple[Household, Optional[bytes]]", run: Run, asked: dict[str, 
     return summed, line.encode(), kept
 
 
-def each(jobs: Iterable[Any], run: Run, asked: dict[str, Any]) -> list[Any]:
+def each(jobs: Iterable[Any], run: Calls, asked: dict[str, Any]) -> list[Any]:
     """Returns the answers of some jobs: households of a long file, or the tables of a frame."""
-    make: Callable[[Any, Run, dict[str, Any]], Any] = answer
+    make: Callable[[Any, Calls, dict[str, Any]], Any] = answer
     if asked["header"] is None:
         make = ended
     return [make(job, run, asked) for job in jobs]
 
 
-def way(asked: dict[str, Any], folder: str = "") -> Run:
-    """Returns what runs the program: its library in this process, or a process for each call, in this folder or in one of its own."""
-    path = asked["rp"]
-    if asked["library"]:
-        from . import library
+def way(asked: dict[str, Any], folder: str = "") -> Calls:
+    """Returns what runs the program and its wider edition: its library in this process, or a process for each call, in this folder or
+    in one of its own."""
+    path, wide = asked["rp"], asked["wide"]
+    if not asked["library"]:
+        return Calls(process_of(path, folder), process_of(wide, folder) if wide else None)
+    from . import library
 
-        loaded = library.known(path)
-        return lambda words, files: loaded.run(path, words, files)
+    loaded = library.known(path)
+    own = (lambda words, files: loaded.run_wide(path, words, files)) if wide is True else process_of(wide, folder) if wide else None
+    return Calls(lambda words, files: loaded.run(path, words, files), own)
 
-    def run(words: Sequence[str], files: dict[str, bytes]) -> tuple[int, bytes, bytes]:
+
+def process_of(path: str, folder: str) -> Run:
+    def run(words: Sequence[str], files: Mapping[str, bytes]) -> Ended:
         status, out, told = worker.run_in(folder, path, words, files) if folder else worker.run(path, words, files)
         if -status in ENDS:
             # What was stopped from outside is no answer, and no refusal.

@@ -15,6 +15,7 @@ table: obs, p_NAME, q_NAME, e. Other columns are left out, with a word. VERDICTS
   --welfare FILE           welfare bounds at the new prices of FILE, as JSON in the archive
   --archive FILE.tar       where tables and what belongs to them are kept: NUMBER/table.csv, NUMBER/certificate.json ..
   --rp PATH                the program or its library
+  --no-wide                the program as it is: what it withholds is not asked of rp-wide
   --part K/N               every N-th block of households from the K-th on, for a cluster
   --quiet                  no line of progress
 
@@ -41,12 +42,12 @@ from .long_answers import ASKED, Pool, columns, lines_of
 from .long_ends import Ends, Signalled
 from .long_files import BLOCK, Apart, Columns, Gathered, Household, LongFile, Stopped, blocks, first_columns, sum_of, together
 from .long_results import Results, begun, done_of, interleaved, is_apart, part_name
-from .program import NAME
+from .program import NAME, wide_beside
 
 # The sources or the release that this file came with.
 TOP = os.path.dirname(os.path.dirname(os.path.dirname(os.path.dirname(os.path.realpath(__file__)))))
 # Another layout of the files gets another number.
-LAYOUT = 1
+LAYOUT = 2
 ENDS = Ends()
 
 
@@ -88,6 +89,13 @@ def program(asked: Optional[str]) -> tuple[str, bool]:
     raise Stopped(f"there is no program {NAME} beside this tool and none on the path: name it by --rp PATH")
 
 
+def wide_of(path: str, is_of_library: bool) -> Any:
+    """Returns the wider edition beside a program or a library: True where the library has its call, and None where there is none."""
+    if is_of_library and library.known(path).wider is not None:
+        return True
+    return wide_beside(None if is_of_library else path)
+
+
 def bytes_of(file: Optional[str]) -> Optional[bytes]:
     if file is None:
         return None
@@ -107,7 +115,7 @@ def parser() -> argparse.ArgumentParser:
     for name in ("--processes", "--power", "--gather"):
         it.add_argument(name, type=int)
     it.add_argument("--seed", type=int, default=1)
-    for name in ("--pump", "--certificates", "--quiet", "--help"):
+    for name in ("--pump", "--certificates", "--no-wide", "--quiet", "--help"):
         it.add_argument(name, action="store_true")
     return it
 
@@ -220,14 +228,16 @@ class Run:
         self.long = LongFile(words.files[0], words.id)
         self.target = part_name(words.files[1], self.part)
         self.archive = part_name(words.archive, self.part) if words.archive else None
-        path, library = program(words.rp)
+        path, is_of_library = program(words.rp)
+        wide = None if words.no_wide else wide_of(path, is_of_library)
         power = [words.seed, words.power] if words.power else None
         new = {name: bytes_of(getattr(words, name)) for name in ("demand", "welfare")}
-        self.asked = {**ASKED, "name": words.id, "header": file.header, "rp": path, "library": library, "pump": words.pump, "power": power}
-        self.asked.update(certificates=words.certificates, **new)
+        self.asked = {**ASKED, "name": words.id, "header": file.header, "rp": path, "library": is_of_library, "wide": wide}
+        self.asked.update(pump=words.pump, power=power, certificates=words.certificates, **new)
         sums = {name: hashlib.blake2b(it or b"").hexdigest() for name, it in new.items()}
-        self.head = {"layout": LAYOUT, "columns": [words.id, *file.header], "part": self.part and list(self.part), "program": sum_of(path)}
-        self.head["questions"] = [words.pump, power, words.certificates, sums["demand"], sums["welfare"]]
+        self.head = {"layout": LAYOUT, "columns": [words.id, *file.header], "part": self.part and list(self.part)}
+        self.head["program"] = sum_of(path) + (sum_of(wide) if isinstance(wide, str) else "")
+        self.head["questions"] = [words.pump, power, words.certificates, sums["demand"], sums["welfare"], wide is not None]
         self.apart = apart
         self.households = self.count = 0
         self.results: Optional[Results] = None

@@ -8,7 +8,7 @@ from fractions import Fraction
 from typing import Any, Sequence
 
 from . import exact
-from .answers import WORDS, by_label, money_scale, reading, walk_of, withheld
+from .answers import BY_WIDE, WORDS, by_label, hinted, is_wide, money_scale, reading, walk_of, withheld
 from .tables import MenuChoices, Sheet, Table, Technology
 from .verifier import reports
 
@@ -77,37 +77,42 @@ class Power:
 
 
 class Trial:
-    """The verdicts on a table of pseudorandom numbers, without their evidence. A verdict that is withheld is None."""
+    """The verdicts on a table of pseudorandom numbers, without their evidence. A verdict that is withheld is None; `wide` has
+    `homothetic` where `rp` itself withholds it."""
 
-    def __init__(self, report: bytes) -> None:
+    def __init__(self, report: bytes, stated: bytes | None = None) -> None:
         self.report = report
         words = {"holds": True, "violated": False, "withheld": None}
+        self.wide: list[str] = []
         with reading(report):
             told = reports.read_trial(report)
             self.seed, self.rows, self.goods = told["seed"], told["rows"], told["goods"]
             self.garp, self.homothetic, self.quasilinear = (words[told[name]] for name in ("garp", "homothetic", "quasilinear"))
             self.efficiency: Fraction = told["efficiency"]
             self.attained: bool = told["attained"]
+            if stated is not None and self.homothetic is not None and reports.read_trial(stated)["homothetic"] == "withheld":
+                self.wide.append("homothetic")
 
     @property
     def ccei(self) -> float:
         return exact.nearest_double(self.efficiency)
 
     def __repr__(self) -> str:
-        return self.report.decode().rstrip("\n")
+        lines = self.report.decode().rstrip("\n").split("\n")
+        return "\n".join(line + BY_WIDE if line.split(" ")[0] in self.wide else line for line in lines)
 
 
 class CostBound:
     """Bounds on what an output costs at new prices of the inputs, in money.
 
     It costs at most `upper`, what the inputs of the row `at` cost, which made that much; None where no row made so much. It costs
-    at least `lower`; None where that is withheld, and `reason` says why. Where the cost axiom fails, `given` is False and both
-    are None.
+    at least `lower`; None where that is withheld, and `reason` says why; `wide` is whether `rp` itself withholds it. Where the cost
+    axiom fails, `given` is False and both are None.
     """
 
     def __init__(self, label: Any, prices: dict[str, Fraction], output: Fraction) -> None:
         self.label, self.prices, self.output = label, prices, output
-        self.given = False
+        self.given = self.wide = False
         self.lower: Fraction | None = None
         self.upper: Fraction | None = None
         self.at: Any = None
@@ -125,7 +130,7 @@ class CostMinimisation:
     `bounds` are those on each output that was asked.
     """
 
-    def __init__(self, technology: Technology, asked: Sheet, report: bytes, is_asked: bool = True) -> None:
+    def __init__(self, technology: Technology, asked: Sheet, report: bytes, is_asked: bool = True, stated: bytes | None = None, hint: str = "") -> None:
         self.technology = technology
         self.asked = asked
         self.report = report
@@ -138,14 +143,16 @@ class CostMinimisation:
             self.profit_pair: tuple[Any, ...] | None = tuple(walk(told["profit"] or ())) or None
             if len(told["bounds"]) != len(asked.rows) or (told["profit"] is None) == technology.priced:
                 raise ValueError("there are not the answers that were asked for")
-            self.bounds = [_cost_bound(technology, asked, *it) for it in zip(asked.labels, told["bounds"])] if is_asked else []
+            own = told["bounds"] if stated is None else reports.read_cost(stated)["bounds"]
+            each = list(zip(asked.labels, told["bounds"], own)) if is_asked else []
+            self.bounds = [_cost_bound(technology, asked, label, it, of_rp, hint) for label, it, of_rp in each]
 
     def __repr__(self) -> str:
         lines = [f"cost {WORDS[self.cost]}", *([] if self.profit is None else [f"profit {WORDS[self.profit]}"])]
         return "\n".join([*lines, *map(repr, self.bounds)])
 
 
-def _cost_bound(technology: Technology, asked: Sheet, label: Any, told: dict[str, Any]) -> CostBound:
+def _cost_bound(technology: Technology, asked: Sheet, label: Any, told: dict[str, Any], stated: dict[str, Any], hint: str) -> CostBound:
     price, quantity = asked.scale("w_"), technology.quantity_scale
     prices = {name: Fraction(value, price) for name, value in zip(technology.inputs, told["prices"])}
     found = CostBound(label, prices, Fraction(told["output"], quantity))
@@ -153,9 +160,10 @@ def _cost_bound(technology: Technology, asked: Sheet, label: Any, told: dict[str
         money = price * quantity
         found.given = True
         if "withheld" in told["lower"]:
-            found.reason = withheld(told["lower"]["withheld"])
+            found.reason = hinted(withheld(told["lower"]["withheld"]), hint)
         else:
             found.lower = told["lower"]["value"] / money
+            found.wide = is_wide(told["lower"], stated["lower"])
         if told["upper"] is not None:
             found.upper, (found.at,) = Fraction(told["upper"]["cost"], money), walk_of(technology)([told["upper"]["at"]])
     return found

@@ -18,10 +18,11 @@ from .catalogue import DRAWS, SEED
 from .commands import refusal
 from .faults import AllRefused, BadData, Failed, NoProgram, Pooled, Problem, Refused, WrongColumns
 from .frames import Frame, near, own_labels, prices_of, values_of
-from .long_answers import ASKED, Ended, Here, Pool
+from .long_answers import ASKED, STATED, Here, Pool
 from .long_files import BLOCK, Stopped
 from .measures import MoneyPump, Power
 from .tables import OWN_MONEY, Forms, Table, as_taken, forms_of
+from .wider import Ended
 
 
 # Fewer households than this are done before other processes have begun: by the program, and by its library.
@@ -74,13 +75,15 @@ class Panel(list):
     def records(self) -> list[dict[str, Any]]:
         """Returns a dictionary for each household: its key, status, verdicts and, where there is none, the reason.
 
-        `efficiency` and `pump_ratio` are exact, as Fractions; `ccei` and `pump` are the nearest floats; only 1 reads 1.
+        `efficiency` and `pump_ratio` are exact, as Fractions; `ccei` and `pump` are the nearest floats; only 1 reads 1. `wide` names
+        the verdicts that `rp` itself withholds.
         """
         found = []
         for row in self:
             key = dict(zip(self.by, row.key if len(self.by) > 1 else [row.key]))
             verdicts = {name: getattr(row.verdict, name, None) for name in VERDICTS}
-            record = {**key, "status": row.status, **verdicts}
+            wide = None if row.verdict is None else " ".join(row.verdict.wide)
+            record = {**key, "status": row.status, **verdicts, "wide": wide}
             if "pump" in self.asked:
                 record["pump_ratio"] = getattr(row.money_pump, "ratio", None)
                 record["pump"] = getattr(row.money_pump, "pump", None)
@@ -92,7 +95,7 @@ class Panel(list):
     def names(self) -> list[str]:
         """Returns the names of what a record has."""
         more = {"pump": ["pump_ratio", "pump"], "power": ["power"]}
-        return [*self.by, "status", *VERDICTS, *(it for name in self.asked for it in more[name]), "message"]
+        return [*self.by, "status", *VERDICTS, "wide", *(it for name in self.asked for it in more[name]), "message"]
 
     def frame(self) -> Any:
         """Returns the records as a frame of pandas, which has to be there; BadData says what to install where it is not.
@@ -152,7 +155,7 @@ NO_PANDAS = "a frame needs the package pandas, which is not here: pip install pa
 KINDS = {
     **dict.fromkeys(("garp", "afriat", "attained", "homothetic", "quasilinear"), "boolean"),
     **dict.fromkeys(("ccei", "pump", "power"), "Float64"),
-    **dict.fromkeys(("efficiency", "pump_ratio", "message"), "string"),
+    **dict.fromkeys(("efficiency", "wide", "pump_ratio", "message"), "string"),
     "status": "Int64",
 }
 
@@ -169,6 +172,7 @@ def panel(
     places: Any = None,
     numbers: Any = "exact",
     exe: Any = None,
+    wide: bool = True,
     progress: bool = True,
 ) -> Panel:
     """Returns the verdict on each household of a frame, whose column (or columns) `by` tells them apart, as a Panel.
@@ -176,7 +180,7 @@ def panel(
     A household whose data are refused gets its refusal, and the others go on; where all are refused for one cause, that is raised
     (AllRefused), with what to do. `places` and `numbers` are those of `analyse`. `pump` asks for the money pump of each too, and
     `power` for that of the test on each one's budgets, by so many draws with `seed`. A column `e` has levels, or `levels` gives
-    them, one for each row or one for all. It runs on all processors, or on so many `workers`, and shows a bar where the package
+    them, one for each row or one for all. `wide=False` asks the program alone, and not its wider edition. It runs on all processors, or on so many `workers`, and shows a bar where the package
     `tqdm` is there and `progress` is left on. The rows of a household need not stand together.
 
     Of a frame of Dask it returns one of Dask, by partitions: the records of `Panel.frame()`, under the place of each household's
@@ -188,6 +192,7 @@ def panel(
     if workers is not None:
         workers = program.whole(workers, "workers", 1, 1024)
     more = {"levels": levels, "pump": pump, "power": power, "seed": seed, "places": places, "numbers": numbers, "exe": exe}
+    more["wide"] = program.switch(wide, "wide")
     if clusters.is_dask(d):
         of_dask: Panel = clusters.of_dask(d, names, more)
         return of_dask
@@ -209,21 +214,28 @@ def answered(
     places: Any = None,
     numbers: Any = "exact",
     exe: Any = None,
+    wide: bool = True,
 ) -> Panel:
     """Returns the Panel of a frame, whether or not any household has an answer."""
     forms = forms_of(places, numbers)
     library, path = program.way(exe)
     asked = {**ASKED, "verdicts": "certify", "pump": bool(pump), "power": None if power is None else [seed, power]}
-    asked.update(rp=path, library=library is not None)
+    asked.update(rp=path, library=library is not None, wide=wide_of(exe) if wide else None, is_wide=wide)
     groups = _groups(Frame(d), names, levels, forms, bool(pump))
     rows = _bar(_rows(groups, asked, workers or _processors()), len(groups), progress)
     return Panel(names, list(rows), [it for it in ("pump", "power") if asked[it]])
 
 
+def wide_of(exe: Any) -> Any:
+    """Returns the wider edition as the processes of a panel are told it: a path, True for the call of the library, or None."""
+    found = program.wide_way(exe)
+    return None if found is None else True if found[0] is not None else found[1]
+
+
 def answers_on(tables: Sequence[Table], workers: Any = None, exe: Any = None) -> list[Verdict]:
     """Returns the verdict on each of some tables, by the processes of a panel."""
     library, path = program.way(exe)
-    asked = {**ASKED, "verdicts": "certify", "rp": path, "library": library is not None}
+    asked = {**ASKED, "verdicts": "certify", "rp": path, "library": library is not None, "wide": wide_of(exe), "is_wide": True}
     groups = [(number, partial(_same, table)) for number, table in enumerate(tables, 1)]
     found = []
     for row in _rows(groups, asked, program.whole(workers or _processors(), "workers", 1, 1024)):
@@ -295,7 +307,9 @@ def _end(row: Row, made: Table, calls: dict[str, Ended], asked: dict[str, Any]) 
         return program.output(program.ran_of(*calls[part]), explain).encode()
 
     try:
-        row.verdict = Verdict(made, Certificate(told("verdicts")))
+        hint = program.hint_of(asked["is_wide"], asked["wide"] is not None)
+        stated = calls.get(STATED + "verdicts")
+        row.verdict = Verdict(made, Certificate(told("verdicts"), None if stated is None else stated[1], hint))
     except Refused as wrong:
         row.refusal = wrong
     except Failed as wrong:

@@ -8,12 +8,17 @@ import shutil
 import sys
 from typing import Any, Callable, Iterable, Mapping, Sequence
 
-from . import library, worker
+from . import library, wider, worker
 from .exact import shown
 from .faults import BadData, Failed, NoProgram
 
 VARIABLE = "RP_EXEC"
 NAME = "rp.exe" if sys.platform == "win32" else "rp"
+# The wider edition of the program: what this variable names, else what stands beside the program.
+WIDE_VARIABLE = "RP_WIDE"
+WIDE_NAME = "rp-wide.exe" if sys.platform == "win32" else "rp-wide"
+# Where it is beside the program as `rt` builds both.
+BUILT = os.path.join(os.pardir, os.pardir, "rp_wide", "out", "rp_wide")
 # A name of a file that the program is given stands in a refusal as `rp: table.csv: BadNumber record 2 column 5`.
 REFUSAL = re.compile(r"rp: (?:([\w-]+)\.(?:csv|json): )?([A-Z]\w*(?: (?:record|column|budget|menu|item) \d+)*)")
 # What a field has to be quoted for.
@@ -48,6 +53,25 @@ def way(exe: Any = None) -> tuple[Runs | None, str]:
     if found is None and (exe is None or exe == "") and not os.environ.get(VARIABLE) and inside() is None:
         found = library.of_loader()
     return (found.run, found.path) if found is not None else (None, find(exe))
+
+
+def wide_way(exe: Any = None) -> tuple[Runs | None, str] | None:
+    """Returns how the wider edition is asked, as `way` does; None where it is not there."""
+    by_library, path = way(exe)
+    if by_library is not None and library.known(path).wider is not None:
+        return library.known(path).run_wide, path
+    beside = wide_beside(None if by_library is not None else path)
+    return (None, beside) if beside is not None else None
+
+
+def wide_beside(path: str | None) -> str | None:
+    """Returns the wider program: what RP_WIDE names, else what stands beside the program of this path, or of what that leads to."""
+    named = os.environ.get(WIDE_VARIABLE)
+    if named:
+        return _named(named, f"the variable {WIDE_VARIABLE}")
+    folders = [] if path is None else [os.path.dirname(path), os.path.dirname(os.path.realpath(path))]
+    places = [os.path.join(folder, name) for folder in folders for name in (WIDE_NAME, BUILT)]
+    return next((os.path.abspath(it) for it in places if os.path.isfile(it) and os.access(it, os.X_OK)), None)
 
 
 def _named(named: Any, where: str) -> str:
@@ -113,6 +137,44 @@ def call(words: Sequence[str], files: Mapping[str, bytes], exe: Any = None) -> R
         return ran_of(*run(program, words, files))
     except OSError as wrong:
         raise NoProgram(f"{program} cannot be run: {wrong}") from wrong
+
+
+class Given:
+    """An answer of a call that may be wider: what was written, what the program itself wrote where that withholds more, and what is
+    said of a value that stays withheld."""
+
+    def __init__(self, out: str, stated: str | None, hint: str) -> None:
+        self.out, self.stated, self.hint = out, stated, hint
+
+
+def given(words: Sequence[str], files: Mapping[str, bytes], exe: Any = None, explain: Explains | None = None, wide: Any = True) -> Given:
+    """Returns the answer of a call that ends with status 0: of the program, or where that withholds something of its wider edition,
+    if that is there and `wide` is true."""
+    ran = call(words, files, exe)
+    out = output(ran, explain)
+    if not switch(wide, "wide") or not wider.is_withheld(words[0], (ran.status, ran.out.encode(), b"")):
+        return Given(out, None, wider.ASKED if wide else wider.UNASKED)
+    found = wide_way(exe)
+    if found is None:
+        return Given(out, None, wider.ABSENT)
+    run, path = found
+    try:
+        more = ran_of(*(run or worker.run)(path, words, files))
+    except OSError as wrong:
+        raise NoProgram(f"{path} cannot be run: {wrong}") from wrong
+    return Given(output(more, explain), out, wider.ASKED)
+
+
+def hint_of(wide: bool, is_there: bool) -> str:
+    """Returns what is said of a value that stays withheld."""
+    return wider.UNASKED if not wide else wider.ASKED if is_there else wider.ABSENT
+
+
+def switch(value: Any, name: str) -> bool:
+    """Returns True or False, and refuses everything else."""
+    if type(value).__name__ not in ("bool", "bool_"):
+        raise BadData(f"{name} is True or False, and not {shown(value)}")
+    return bool(value)
 
 
 def ran_of(status: int, out: bytes, told: bytes) -> Ran:

@@ -49,7 +49,7 @@ def case(number):
     choice = random.Random(f"{SEED} {number}")
     prices, quantities, levels = drawn(choice)
     wrong, withheld = [], 0
-    own, other = revealed.analyse(prices, quantities, levels=levels), plain.analyse(prices, quantities, levels=levels)
+    own, other = revealed.analyse(prices, quantities, levels=levels, wide=False), plain.analyse(prices, quantities, levels=levels)
     for first, second in zip(own.certificate.items, other.certificate.items):
         if "withheld" in first:
             withheld += 1
@@ -72,7 +72,7 @@ def bounds(choice, prices, quantities):
     spent = max(1, sum(map(int.__mul__, new, choice.choice(quantities))) + choice.randint(-2, 2))
     for name in ("demand", "welfare"):
         asked = (prices, quantities, new, spent) if name == "demand" else (prices, quantities, new)
-        own, other = getattr(revealed, name)(*asked), getattr(plain, name)(*asked)
+        own, other = getattr(revealed, name)(*asked, wide=False), getattr(plain, name)(*asked)
         for first, second in zip(own.certificate.items, other.certificate.items):
             pairs = [(a[side], b[side]) for a, b in zip(first.get("goods", []), second.get("goods", [])) for side in ("lower", "upper")]
             pairs += [(first["lower"], second["lower"])] if name == "welfare" and "lower" in first else []

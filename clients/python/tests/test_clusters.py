@@ -53,7 +53,7 @@ class Tasks(unittest.TestCase):
 
     def test_the_schema(self):
         wanted = "`town` string, `year` string, `status` bigint, `garp` boolean, `afriat` boolean, `efficiency` string, `ccei` double, "
-        wanted += "`attained` boolean, `homothetic` boolean, `quasilinear` boolean, `power` double, `message` string"
+        wanted += "`attained` boolean, `homothetic` boolean, `quasilinear` boolean, `wide` string, `power` double, `message` string"
         self.assertEqual(revealed.panel_task(["town", "year"], order="obs", power=5).schema, wanted)
         self.assertTrue(revealed.panel_task("town", order="obs", key="bigint").schema.startswith("`town` bigint, "))
 

@@ -18,6 +18,8 @@ LIBRARY = os.environ.get("RP_TEST_LIBRARY", "")
 P, Q = [[1, 2], [2, 1]], [[1, 2], [2, 1]]
 BUDGETS = {"p_a": [1, 2], "p_b": [2, 1], "w": [4, 4]}
 CHOICES = {"budget": [1, 1, 2, 2], "q_a": [2, 0, 1, 2], "q_b": [1, 2, 2, 0], "n": [1, 3, 2, 2]}
+# Products on the way pass 2^127 - 1, so rp withholds the homothetic verdict.
+LONG = [[4194304, 1], [1, 3145727], [1, 4194304]], [[2097151, 4194304], [1747627, 2796203], [4194304, 2097151]]
 FIRM = {"y": [1, 2], "p": [5, 4], "w_a": [1, 2], "w_b": [2, 1], "x_a": [2, 2], "x_b": [1, 2]}
 
 
@@ -191,12 +193,24 @@ class Answers(unittest.TestCase):
             lambda exe: revealed.utility(P, [[2, 1], [1, 2]], [1, 1], exe=exe),
             lambda exe: revealed.random(BUDGETS, CHOICES, exe=exe),
             lambda exe: revealed.random(BUDGETS, CHOICES, per=7, exe=exe),
+            lambda exe: revealed.patches(BUDGETS, CHOICES, exe=exe),
+            lambda exe: revealed.analyse(*LONG, exe=exe, wide=False),
             lambda exe: revealed.menus([["ab", "a", 1], ["ab", "b", 2]], exe=exe),
             lambda exe: revealed.cost(FIRM, {"w_a": 1, "w_b": 1, "y": 3}, exe=exe),
             lambda exe: revealed.check((P, Q), revealed.certify(P, Q), exe=exe),
             lambda exe: revealed.check((P, Q), revealed.certify(P, [[2, 1], [1, 2]]), exe=exe),
         ):
             self.assertIsNotNone(self.both(call))
+
+    def test_the_wider_call(self):
+        self.assertIsNotNone(library.known(os.path.abspath(LIBRARY)).wider)
+        with_library = revealed.analyse(*LONG, exe=LIBRARY)
+        self.assertEqual((with_library.homothetic, with_library.wide), (True, ["homothetic"]))
+        self.assertTrue(revealed.check(LONG, with_library, exe=LIBRARY))
+        frame = {"home": [1, 1, 1, 2, 2, 2], **{f"{side}_{at}": [row[at] for row in rows] * 2 for side, rows in zip("pq", LONG) for at in (0, 1)}}
+        self.assertEqual([row.verdict.wide for row in revealed.panel(frame, "home", exe=LIBRARY, progress=False)], [["homothetic"]] * 2)
+        if program.wide_way(os.environ["RP_EXEC"]):
+            self.both(lambda exe: revealed.analyse(*LONG, exe=exe))
 
     def test_refusals(self):
         for call, fault in (

@@ -44,7 +44,7 @@ class Plain(unittest.TestCase):
     def test_what_the_program_withholds(self):
         # a table that a homothetic utility rationalizes, but for rounding: the next round is drawn until the test still holds
         p, q = consistent(50)
-        own, other = revealed.analyse(p, q), plain.analyse(p, q)
+        own, other = revealed.analyse(p, q, wide=False), plain.analyse(p, q)
         self.assertIsNone(own.homothetic)
         self.assertIsNotNone(other.homothetic)
         found = revealed.verify(other)
@@ -60,13 +60,13 @@ class Plain(unittest.TestCase):
         new = [4321, 5432, 6543, 7654]
         kept = [label for label in range(25) if revealed.analyse(prices[: label + 1], quantities[: label + 1]).garp]
         prices, quantities = prices[: len(kept)], quantities[: len(kept)]
-        demand, exact = (call(prices, quantities, new, 20_000_000) for call in (revealed.demand, plain.demand))
+        demand, exact = revealed.demand(prices, quantities, new, 20_000_000, wide=False), plain.demand(prices, quantities, new, 20_000_000)
         for good, pair in exact[0].bounds.items():
             for own, other in zip(demand[0].bounds[good], pair):
                 self.assertIsNotNone(other)
                 self.assertIn(own, (None, other))
         self.assertTrue(revealed.verify(exact))
-        welfare, exact = (call(prices, quantities, new) for call in (revealed.welfare, plain.welfare))
+        welfare, exact = revealed.welfare(prices, quantities, new, wide=False), plain.welfare(prices, quantities, new)
         for row, lower in exact[0].lower.items():
             self.assertIn(welfare[0].lower[row], (None, lower))
         self.assertTrue(revealed.verify(exact))

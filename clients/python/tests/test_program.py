@@ -190,6 +190,20 @@ class Random(unittest.TestCase):
         self.assertTrue(revealed.check(verdict, verdict))
         self.assertTrue(revealed.verify(verdict, verdict))
 
+    def test_patches_with_their_sides(self):
+        found = revealed.patches({**BUDGETS, "obs": ["low", "high"]}, {**CHOICES, "budget": ["low", "low", "high", "high"]})
+        self.assertEqual([(it.number, it.budget, it.share, it.units) for it in found], [
+            (1, 1, Fraction(1, 4), 1), (2, 1, Fraction(3, 4), 3), (3, 2, Fraction(1, 2), 2), (4, 2, Fraction(1, 2), 2),
+        ])  # fmt: skip
+        self.assertEqual([it.sides for it in found[:2]], [{"low": "on", "high": "above"}, {"low": "on", "high": "below"}])
+        self.assertEqual([it.sides for it in found[2:]], [{"low": "above", "high": "on"}, {"low": "below", "high": "on"}])
+        self.assertEqual(repr(found[1]), "<patch 2 of budget 1: 3/4, on below>")
+        self.assertEqual([it.units for it in revealed.choice_patches(BUDGETS, CHOICES, per=10)], [3, 7, 5, 5])
+        own = revealed.Choices(BUDGETS, CHOICES, None)
+        for report in ("", "budgets 2 patches 1 total 4\n", "budgets 2 patches 1 total 4\npatch 1 budget 1 units 1 sides on\n"):
+            with self.assertRaises(revealed.Unreadable):
+                revealed.answers.patches_of(own, report)
+
     def test_rows_and_names_of_budgets(self):
         rows = revealed.random([[1, 2, 4], [2, 1, 4]], [[1, 2, 1, 1], [1, 0, 2, 3], [2, 1, 2, 2], [2, 2, 0, 2]])
         named = revealed.random({**BUDGETS, "obs": ["low", "high"]}, {**CHOICES, "budget": ["low", "low", "high", "high"]})

@@ -63,14 +63,14 @@ invisible(file.copy(Sys.glob(file.path(room, "revealed_*.tar.gz")), plain))
 tarball <- Sys.glob(file.path(plain, "*.tar.gz"))
 # The vignette was run when it was built, and is run below.
 said <- run(
-  "R CMD check", c("CMD", "check", "--as-cran", "--no-manual", if (has_latex) "--no-vignettes" else "--ignore-vignettes", basename(tarball)), at = plain,
+  "R CMD check", c("CMD", "check", "--as-cran", if (has_latex) "--no-vignettes" else c("--no-manual", "--ignore-vignettes"), basename(tarball)), at = plain,
   env = c(
     paste0("R_CRAN_WEB=file://", plain, "/web"), "_R_CHECK_CRAN_INCOMING_=false", "_R_CHECK_FORCE_SUGGESTS_=false",
-    "_R_CHECK_FUTURE_FILE_TIMESTAMPS_=false", "_R_CHECK_SYSTEM_CLOCK_=false", if (!all(nzchar(Sys.which(c("qpdf", "gs"))))) "_R_CHECK_DOC_SIZES_=false", if (nzchar(released)) "RP_EXEC= RP_LIBRARY= PATH=/usr/bin:/bin"
+    "_R_CHECK_FUTURE_FILE_TIMESTAMPS_=false", "_R_CHECK_SYSTEM_CLOCK_=false", "R_RD4PDF=times,hyper", if (!all(nzchar(Sys.which(c("qpdf", "gs"))))) "_R_CHECK_DOC_SIZES_=false", if (nzchar(released)) "RP_EXEC= RP_LIBRARY= PATH=/usr/bin:/bin"
   )
 )
 ended <- grep("^Status:", said, value = TRUE)
-cat("R CMD check --as-cran --no-manual", if (!has_latex) "(without the vignette: there is no LaTeX for it)", ended, "\n")
+cat("R CMD check --as-cran", if (!has_latex) "(without the manual and the vignette: there is no LaTeX for them)", ended, "\n")
 cat(grep("NOTE$", said, value = TRUE), sep = "\n")
 expect(length(ended) == 1 && !grepl("WARNING|ERROR", ended), "R CMD check")
 

@@ -64,7 +64,7 @@ class Stata:
     def __init__(self, data, room, options, panel):
         self.data, self.room, self.panel = data, room, panel
         self.count = len(next(iter(data.values())))
-        names = ("digits", "by", "levels", "obs", "exe", "generate", "saving", "pump", "newprices", "money")
+        names = ("digits", "by", "levels", "obs", "exe", "nowide", "generate", "saving", "pump", "newprices", "money")
         self.locals = {**{name: "" for name in names}, "power": "0", "seed": "1", **options}
         self.system, self.rownames = "Unix", {}
         self.results, self.r, self.code, self.files = {}, {}, 0, {}
@@ -603,6 +603,92 @@ def check_many():
     assert steps[1] < 6.3 * steps[0], steps
 
 
+REPORT = """observations 2 goods 2 places 0 0
+garp holds
+ranks 1 1
+afriat model
+utility 0 0
+lambda 1 1
+efficiency 1 attained yes
+below 1 1
+at ranks 1 1
+homothetic {}
+quasilinear holds
+values 0 0
+"""
+DEMAND = """observations 2 goods 2 places 0 0
+garp holds
+ranks 1 1
+demand prices 1 1 expenditure 3
+below 1 2
+strict none
+inner 2 1 over 1
+good 1 lower {} upper 2
+good 2 lower 1 upper withheld 5
+"""
+WELFARE = """observations 2 goods 2 places 0 0
+garp holds
+ranks 1 1
+welfare prices 1 1 observation 1 lower 5/2 upper 3 at 1
+welfare prices 1 1 observation 2 lower {} upper 3 at 2
+"""
+
+
+def stand_in(folder, name, reports, ends=0):
+    """Writes a program that prints a report for each command, and tells in a file of its own that it was asked."""
+    path = os.path.join(folder, name)
+    with open(path, "w", encoding="utf-8") as it:
+        it.write(f'#!/bin/sh\nown=$(readlink -f "$0")\necho "$1" >>"$own.asked"\ncat "$own.$1"\nexit {ends}\n')
+    os.chmod(path, 0o755)
+    for command, report in reports.items():
+        with open(f"{path}.{command}", "w", encoding="utf-8") as it:
+            it.write(report)
+    return path
+
+
+def check_wide():
+    """What rp withholds is asked of rp-wide: by stand-ins that write what they are told."""
+    data, wide = example("decimals.csv"), os.environ.pop("RP_WIDE", None)
+    held, given = "withheld steps 2 from 2 to 1", "holds\nvalues 1 1"
+    with tempfile.TemporaryDirectory(prefix="ein Ordner é ") as room:
+        own = {"analyse": REPORT.format(held), "demand": DEMAND.format("withheld 4"), "welfare": WELFARE.format("withheld 4")}
+        exe = stand_in(room, "rp", own)
+        found, _, _, _ = call(data, **BOTH, exe=exe)
+        assert (found["homothetic"], found["wide"]) == (MISSING, ""), found
+        assert found["message"] == f"homothetic {held}; rp-wide may give it, which is not beside rp", found
+        more = {"analyse": REPORT.format(given), "demand": DEMAND.format("1/2"), "welfare": WELFARE.format("9/4")}
+        other = stand_in(room, "rp-wide", more)
+        found, code, _, stata = call(data, **BOTH, exe=exe, newprices="1 1", money="3", generate="v", saving="kept.dta")
+        assert (code, found["homothetic"], found["wide"], found["message"]) == (0, 1, "homothetic demand", ""), found
+        assert found["verdicts"][0][7:] == [0.5, 2, 1, MISSING] and stata.data["v_wide"][0] == "homothetic demand", found
+        assert found["kept.dta"][0]["wide"] == "homothetic demand", found
+        found, _, _, stata = call(data, **BOTH, exe=exe, newprices="1 1", generate="v")
+        assert found["wide"] == "homothetic welfare" and stata.data["v_lower"] == [2.5, 2.25], (found, stata.data)
+        found, _, _, stata = call(data, **BOTH, exe=exe, nowide="nowide", newprices="1 1", generate="v")
+        assert (found["wide"], found["homothetic"], stata.data["v_lower"][1]) == ("", MISSING, MISSING), found
+        assert found["message"] == f"homothetic {held}; rp-wide may give it", found
+        panel = {**households(2), "id": [0.0, 0.0, 1.0, 1.0]}
+        found, _, _, _ = call(panel, prices="p_a p_b", quantities="q_a q_b", by="id", exe=exe)
+        assert (found["wide1"], found["wide2"]) == ("homothetic", "homothetic"), found
+        # By a link to the program, and where nothing is withheld it is not asked.
+        os.makedirs(f"{room}/linked")
+        os.symlink(exe, f"{room}/linked/rp")
+        assert call(data, **BOTH, exe=f"{room}/linked/rp")[0]["wide"] == "homothetic"
+        os.remove(f"{other}.asked")
+        stand_in(room, "rp", {"analyse": REPORT.format(given)})
+        assert (call(data, **BOTH, exe=exe)[0]["wide"], os.path.exists(f"{other}.asked")) == ("", False)
+        # It stays withheld, and a wider program that fails.
+        stand_in(room, "rp", own)
+        stand_in(room, "rp-wide", own)
+        found, _, _, _ = call(data, **BOTH, exe=exe)
+        assert found["message"] == f"homothetic {held}; rp-wide found no evidence either", found
+        stand_in(room, "rp-wide", {"analyse": ""}, ends=9)
+        found, _, _, _ = call(data, **BOTH, exe=exe)
+        assert (found["status"], found["garp"]) == (9, MISSING), found
+    if wide is not None:
+        os.environ["RP_WIDE"] = wide
+
+
 def check_texts():
     """Texts that a shell or Stata could take for more than a text: as the program's path, as a folder, as what is said."""
     data, program = example("contradiction.csv"), os.environ["RP_EXEC"]
@@ -635,7 +721,7 @@ def main():
     os.environ["RP_EXEC"] = os.path.abspath(os.environ["RP_EXEC"])
     with tempfile.TemporaryDirectory() as room:
         os.chdir(room)
-        for check in (check_verdicts, check_refusals, check_panel, check_more, check_files, check_many, check_texts):
+        for check in (check_verdicts, check_refusals, check_panel, check_more, check_files, check_many, check_wide, check_texts):
             check()
         os.chdir(old)
     print("clients/stata: the traffic is as it should be; it was not run in Stata")

@@ -4,20 +4,23 @@ bound_text <- function(bound, places) {
   if (case_of(bound, c("value", "withheld")) == "withheld") NA_character_ else over_ten(bound$value, places)
 }
 
-bound_reason <- function(bound) if (is.null(bound$withheld)) NA_character_ else withheld_at(bound$withheld)
+bound_reason <- function(bound, hint) if (is.null(bound$withheld)) NA_character_ else hinted(withheld_at(bound$withheld), hint)
 
 withheld_at <- function(step) paste("the run of its program gets past 2^63 - 1 at step", step)
 
 # Asks for an item on the axiom and then others, and returns them with what the axiom says of the table.
-asked_of <- function(command, table, new, engine) {
+# `stated` are the items of the program itself, which are others where the wider edition gives more.
+asked_of <- function(command, table, new, engine, wide) {
   files <- list(table.csv = csv_lines(table), new.csv = csv_lines(new))
-  text <- ask(c(command, "table.csv", "new.csv", "--json"), files, engine, list(table, new))
+  given <- ask_wide(c(command, "table.csv", "new.csv", "--json"), files, engine, list(table, new), wide)
+  text <- given$text
   reading(text, {
     items <- items_of(text, "table")
+    own <- if (is.null(given$stated)) items else items_of(given$stated, "table")
     axiom <- read_axiom(table, items[[1]])
-    stopifnot(vapply(items, function(it) it$item, "") == c("garp", rep(command, length(items) - 1)), length(items) > 1)
+    stopifnot(vapply(items, function(it) it$item, "") == c("garp", rep(command, length(items) - 1)), length(items) > 1, length(items) == length(own))
     list(
-      items = items[-1], garp = axiom$verdict, ranks = axiom$ranks, cycle = axiom$cycle, certificate = text, table = table, new = new
+      items = items[-1], stated = own[-1], hint = given$hint, garp = axiom$verdict, ranks = axiom$ranks, cycle = axiom$cycle, certificate = text, table = table, new = new
     )
   })
 }
@@ -30,55 +33,60 @@ stacked <- function(frames) {
 
 # ---- demand
 
-rp_demand <- function(p, q = NULL, new, m = NULL, digits = NULL, numbers = "exact", exe = NULL) {
+rp_demand <- function(p, q = NULL, new, m = NULL, digits = NULL, numbers = "exact", exe = NULL, wide = TRUE) {
   if (missing(new)) bad_data("there are no new prices: give the argument new")
   digits <- forms_of(digits, numbers)
   table <- table_of(p, q, digits)
-  found <- asked_of("demand", table, new_prices(table, new, m, wants_m = TRUE, digits), engine_of(exe))
+  found <- asked_of("demand", table, new_prices(table, new, m, wants_m = TRUE, digits), engine_of(exe), wide)
   reading(found$certificate, {
     stopifnot(length(found$items) == length(found$new$labels))
-    found$bounds <- stacked(Map(demand_frame, found$items, found$new$labels, MoreArgs = list(table = table)))
+    found$bounds <- stacked(Map(demand_frame, found$items, found$stated, found$new$labels, MoreArgs = list(table = table, hint = found$hint)))
     read_walk <- function(name) lapply(found$items, function(item) walk_of(table, item[[name]]))
     if (found$garp) {
       found$below <- named(read_walk("below"), as.character(found$new$labels))
       found$strict <- named(read_walk("strict"), as.character(found$new$labels))
     }
-    found$items <- NULL
+    found[c("items", "stated", "hint")] <- NULL
     structure(found, class = "rp_demand")
   })
 }
 
 rp_demand_bounds <- rp_demand
 
-demand_frame <- function(item, label, table) {
+demand_frame <- function(item, stated, label, table, hint) {
   count <- length(table$goods)
   found <- list(budget = rep(label, count), good = table$goods)
   if (case_of(item, c("cycle", "goods")) == "cycle") {
     nothing <- exact(rep(NA, count))
-    return(c(found, list(lower = nothing, upper = nothing, inner = nothing, reason = rep("the axiom fails", count))))
+    return(c(found, list(lower = nothing, upper = nothing, inner = nothing, wide = rep("", count), reason = rep("the axiom fails", count))))
   }
   stopifnot(length(item$goods) == count, length(item$inner$num) == count)
   places <- places_of(table, "quantity")
   side <- function(name) exact(vapply(item$goods, function(it) bound_text(it[[name]], places), ""))
-  why <- function(name) vapply(item$goods, function(it) bound_reason(it[[name]]), "")
+  why <- function(name) vapply(item$goods, function(it) bound_reason(it[[name]], hint), "")
+  of_wide <- function(name) unlist(Map(function(own, other) if (is_wide(own[[name]], other[[name]])) name else "", item$goods, stated$goods))
   inner <- over_ten(vapply(item$inner$num, fraction, "", den = item$inner$den, USE.NAMES = FALSE), places)
   reason <- ifelse(is.na(why("lower")), why("upper"), why("lower"))
-  c(found, list(lower = side("lower"), upper = side("upper"), inner = exact(inner), reason = reason))
+  wide <- trimws(paste(of_wide("lower"), of_wide("upper")))
+  c(found, list(lower = side("lower"), upper = side("upper"), inner = exact(inner), wide = wide, reason = reason))
 }
 
 # Doubles: lower bounds are rounded down and upper ones up, so that what lies between is not cut.
 as.data.frame.rp_demand <- function(x, row.names = NULL, optional = FALSE, ...) {
   own <- x$bounds
   frame_of(c(
-    own[c("budget", "good")], beside("lower", own$lower, double_below), beside("upper", own$upper, double_above), beside("inner", own$inner), own["reason"]
+    own[c("budget", "good")], beside("lower", own$lower, double_below), beside("upper", own$upper, double_above), beside("inner", own$inner), own[c("wide", "reason")]
   ))
 }
 
 print.rp_demand <- function(x, ...) {
-  cat(table_lines(x$table), axiom_line("demand", x), sep = "\n")
+  cat(table_lines(x$table), axiom_line("demand", x), wide_line(nzchar(x$bounds$wide)), sep = "\n")
   print(x$bounds[c("budget", "good", "lower", "upper", "inner")], row.names = FALSE)
   invisible(x)
 }
+
+# Returns the line that marks bounds which the program itself withholds, where there are some.
+wide_line <- function(is_wide) if (any(is_wide)) paste("by rp-wide, since rp itself withholds them: bounds of", sum(is_wide), "rows, which the column wide marks")
 
 axiom_line <- function(what, x) paste0(what, ", ", if (x$garp) "garp holds" else paste("garp violated: cycle", paste(x$cycle, collapse = " ")))
 
@@ -94,24 +102,25 @@ counted <- function(frame) {
 
 # ---- welfare
 
-rp_welfare <- function(p, q = NULL, new, digits = NULL, numbers = "exact", exe = NULL) {
+rp_welfare <- function(p, q = NULL, new, digits = NULL, numbers = "exact", exe = NULL, wide = TRUE) {
   if (missing(new)) bad_data("there are no new prices: give the argument new")
   digits <- forms_of(digits, numbers)
   table <- table_of(p, q, digits)
-  found <- asked_of("welfare", table, new_prices(table, new, digits = digits), engine_of(exe))
+  found <- asked_of("welfare", table, new_prices(table, new, digits = digits), engine_of(exe), wide)
   reading(found$certificate, {
     number <- length(table$labels)
     labels <- rep(found$new$labels, each = number)
     stopifnot(length(labels) == length(found$items))
-    found$bounds <- welfare_frame(found$items, labels, table, places_of(found$new, "price") + places_of(table, "quantity"))
-    found$items <- NULL
+    found$bounds <- welfare_frame(found, labels, table, places_of(found$new, "price") + places_of(table, "quantity"))
+    found[c("items", "stated", "hint")] <- NULL
     structure(found, class = "rp_welfare")
   })
 }
 
 rp_welfare_bounds <- rp_welfare
 
-welfare_frame <- function(items, labels, table, places) {
+welfare_frame <- function(given, labels, table, places) {
+  items <- given$items
   fails <- vapply(items, function(it) case_of(it, c("cycle", "lower")) == "cycle", TRUE)
   upper <- function(it) if (is.null(it$upper)) NA_character_ else over_ten(it$upper, places)
   lower <- function(it) if (is.null(it$lower)) NA_character_ else bound_text(it$lower, places)
@@ -119,19 +128,20 @@ welfare_frame <- function(items, labels, table, places) {
   found$lower <- exact(vapply(items, lower, ""))
   found$upper <- exact(vapply(items, upper, ""))
   found$at <- walk_of(table, vapply(items, function(it) if (is.null(it$at)) NA_character_ else it$at, ""))
-  found$reason <- ifelse(fails, "the axiom fails", vapply(items, function(it) bound_reason(it$lower), ""))
+  found$wide <- unlist(Map(function(own, other) is_wide(own$lower, other$lower), items, given$stated))
+  found$reason <- ifelse(fails, "the axiom fails", vapply(items, function(it) bound_reason(it$lower, given$hint), ""))
   found
 }
 
 as.data.frame.rp_welfare <- function(x, row.names = NULL, optional = FALSE, ...) {
   own <- x$bounds
   frame_of(c(
-    own[c("prices", "observation")], beside("lower", own$lower, double_below), beside("upper", own$upper, double_above), own[c("at", "reason")]
+    own[c("prices", "observation")], beside("lower", own$lower, double_below), beside("upper", own$upper, double_above), own[c("at", "wide", "reason")]
   ))
 }
 
 print.rp_welfare <- function(x, ...) {
-  cat(table_lines(x$table), axiom_line("welfare", x), sep = "\n")
+  cat(table_lines(x$table), axiom_line("welfare", x), wide_line(x$bounds$wide), sep = "\n")
   print(x$bounds[c("prices", "observation", "lower", "upper", "at")], row.names = FALSE)
   invisible(x)
 }

@@ -36,22 +36,27 @@ library_places <- function(windows = on_windows()) {
 loaded <- new.env(parent = emptyenv())
 
 # Returns the path of the package's own code where the library is inside of it, as in the package of a release; or nothing.
-library_inside <- function() if (!is.null(.Call(C_revealed_own))) getLoadedDLLs()[["revealed"]][["path"]]
+library_inside <- function() if (!is.null(.Call(C_revealed_own, FALSE))) getLoadedDLLs()[["revealed"]][["path"]]
 
-# Returns the call of a library, which is loaded once.
-library_call <- function(path) {
-  if (identical(path, library_inside())) return(.Call(C_revealed_own))
+# Returns the call of a library, which is loaded once; or its wider call, NULL in a library up to 0.13.0, which has none.
+library_call <- function(path, wide = FALSE) {
+  if (identical(path, library_inside())) return(.Call(C_revealed_own, wide))
   if (is.null(loaded[[path]])) {
-    found <- tryCatch(getNativeSymbolInfo("rp_answer", dyn.load(path), withRegistrationInfo = FALSE)$address, error = identity)
+    found <- tryCatch(calls_in(dyn.load(path)), error = identity)
     if (inherits(found, "error")) no_program(path, " is no library of rp: ", conditionMessage(found))
     assign(path, found, envir = loaded)
   }
-  loaded[[path]]
+  loaded[[path]][[if (wide) "wide" else "call"]]
+}
+
+calls_in <- function(library) {
+  of <- function(name) getNativeSymbolInfo(name, library, withRegistrationInfo = FALSE)$address
+  list(call = of("rp_answer"), wide = tryCatch(of("rp_answer_wide"), error = function(wrong) NULL))
 }
 
 # The statuses that the program has not, and what is said of them.
 of_library_alone <- c(
-  "8" = "the arguments of rp_answer do not fit together",
+  "8" = "the arguments of the call do not fit together",
   "70" = "the library stopped in the middle of the call, which no input is known to do"
 )
 

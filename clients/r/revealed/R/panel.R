@@ -1,19 +1,23 @@
 # A panel: what is asked of each household of one long frame, on all processors.
 
 asked_of_panels <- list(
-  test = list(class = "rp_test", words = function(more) c("certify", "table.csv"), read = function(table, words, text) read_verdict(table, text)),
-  pump = list(class = "rp_pump", words = function(more) c("pump", "table.csv"), read = function(table, words, text) read_pump(table, text)),
+  test = list(
+    class = "rp_test", words = function(more) c("certify", "table.csv"),
+    read = function(table, words, text, ran) read_verdict(table, text, ran$stated, ran$hint)
+  ),
+  pump = list(class = "rp_pump", words = function(more) c("pump", "table.csv"), read = function(table, words, text, ran) read_pump(table, text)),
   power = list(
     class = "rp_power", words = function(more) c("power", "table.csv", power_words(more$seed, more$draws)),
-    read = function(table, words, text) read_power(table, words[3:4], text)
+    read = function(table, words, text, ran) read_power(table, words[3:4], text)
   )
 )
 
 rp_panel <- function(data, id, ask = c("test", "pump", "power"), digits = NULL, levels = NULL, seed = NULL, draws = 1000, workers = NULL,
-                     numbers = "exact", progress = interactive(), exe = NULL) {
+                     numbers = "exact", progress = interactive(), exe = NULL, wide = TRUE) {
   kind <- chosen(ask, c("test", "pump", "power"), "ask")
   data <- plain_frame(data)
   if (!is_switch(progress)) bad_data("progress is TRUE or FALSE")
+  if (!is_switch(wide)) bad_data("wide is TRUE or FALSE")
   workers <- if (is.null(workers)) processors() else as.integer(whole_word(workers, "workers", "1", "4096"))
   sides <- panel_sides(data, id, levels)
   digits <- forms_of(digits, numbers)
@@ -31,7 +35,7 @@ rp_panel <- function(data, id, ask = c("test", "pump", "power"), digits = NULL, 
   fit <- if (!is_rounded(digits)) fit_of(whole_sheet(sides, digits))
   some <- function(numbers) {
     tables <- lapply(rows[numbers], household_of, sides = sides, digits = digits, id = id, fit = fit)
-    answers_on(tables, words, how$read, engine)
+    answers_on(tables, words, how$read, engine, wide)
   }
   found <- in_parallel(length(rows), some, workers, progress)
   lost <- which(!vapply(found, inherits, TRUE, c(how$class, "rp_error")))
@@ -79,7 +83,7 @@ panel_sides <- function(data, id, levels = NULL) {
 
 # The names that a panel's frame has beside those of the households.
 answer_names <- c(
-  "status", "garp", "afriat", "ccei", "efficiency", "attained", "homothetic", "quasilinear", "pump", "pump_ratio", "power", "violations", "draws",
+  "status", "garp", "afriat", "ccei", "efficiency", "attained", "homothetic", "quasilinear", "wide", "pump", "pump_ratio", "power", "violations", "draws",
   "message"
 )
 
@@ -110,12 +114,12 @@ household_of <- function(at, sides, digits, id, fit) {
 }
 
 # Returns the answer on each table, or the condition in its place.
-answers_on <- function(tables, words, read, engine) {
+answers_on <- function(tables, words, read, engine, wide) {
   found <- tables
   own <- which(vapply(tables, inherits, TRUE, "rp_table"))
-  ran <- answers(words, lapply(tables[own], function(table) list(table.csv = csv_lines(table))), engine)
+  ran <- wide_answers(words, lapply(tables[own], function(table) list(table.csv = csv_lines(table))), engine, wide)
   found[own] <- Map(function(table, ran) {
-    tryCatch(read(table, words, text_of(ran, list(table))), rp_error = function(wrong) wrong)
+    tryCatch(read(table, words, text_of(ran, list(table)), ran), rp_error = function(wrong) wrong)
   }, tables[own], ran)
   found
 }
@@ -165,7 +169,8 @@ as.data.frame.rp_panel <- function(x, row.names = NULL, optional = FALSE, ...) {
   own <- switch(x$ask,
     test = c(
       list(garp = told("garp", NA), afriat = told("afriat", NA)), beside("ccei", index("efficiency"), exact_name = "efficiency"),
-      lapply(named(c("attained", "homothetic", "quasilinear"), c("attained", "homothetic", "quasilinear")), told, none = NA)
+      lapply(named(c("attained", "homothetic", "quasilinear"), c("attained", "homothetic", "quasilinear")), told, none = NA),
+      list(wide = vapply(seq_along(is_answer), function(at) if (is_answer[at]) paste(x$answers[[at]]$wide, collapse = " ") else NA_character_, ""))
     ),
     pump = c(list(garp = told("garp", NA)), beside("pump", index("ratio"), exact_name = "pump_ratio")),
     power = list(power = told("power", NA_real_), violations = told("violations", NA_integer_), draws = told("draws", NA_integer_))

@@ -1,9 +1,27 @@
-# What answers: the program or its library, where they are, and their calls. The other files ask by `ask` and `answers` alone.
+# What answers: the program or its library, where they are, and their calls; and their wider edition, which is asked where they
+# withhold something. The other files ask by `ask`, `ask_wide`, `answers` and `wide_answers` alone.
 
-# Returns what answers: a list with the call of a library, or with the path of the program.
+# Returns what answers: a list with the call of a library and its path, or with the path of the program.
 engine_of <- function(exe = NULL) {
   path <- rp_program(exe)
-  if (is_library(path)) list(call = library_call(path)) else list(program = path)
+  if (is_library(path)) list(call = library_call(path), path = path) else list(program = path)
+}
+
+# Returns what answers for the wider edition, or NULL where it is not there: the wider call of the library; else the program that
+# RP_WIDE names, or that stands beside the program.
+wide_engine <- function(engine) {
+  call <- if (!is.null(engine$call)) library_call(engine$path, wide = TRUE)
+  if (!is.null(call)) return(list(call = call))
+  named <- Sys.getenv("RP_WIDE")
+  found <- if (nzchar(named)) on_path(named) else if (!is.null(engine$program)) Find(is_program, wide_places(engine$program))
+  if (nzchar(named) && (is.null(found) || is_library(found))) no_program("the variable RP_WIDE names ", quoted(named), ", which is no program")
+  if (!is.null(found)) list(program = found)
+}
+
+# Returns where the wider program may stand beside a program, or beside what that leads to; and where `rt` builds both.
+wide_places <- function(program, windows = on_windows()) {
+  folders <- unique(dirname(c(program, normalizePath(program, "/", mustWork = FALSE))))
+  c(file.path(folders, if (windows) "rp-wide.exe" else "rp-wide"), file.path(dirname(dirname(folders)), "rp_wide", "out", "rp_wide"))
 }
 
 rp_program <- function(exe = NULL, must = TRUE) {
@@ -94,6 +112,37 @@ answers <- function(words, batch, engine = engine_of()) {
   if (is.null(engine$call)) by_program(words, batch, engine$program) else by_library(words, batch, engine$call)
 }
 
+# The same of words by which something may be withheld. Such an answer is that of the wider edition, where that is there and `wide`
+# asks for it, and has what the program itself wrote as `stated`; `hint` is what is said of a value that stays withheld.
+wide_answers <- function(words, batch, engine, wide) {
+  found <- answers(words, batch, engine)
+  more <- which(vapply(found, is_withheld, TRUE, command = words[1]))
+  other <- if (wide && length(more)) wide_engine(engine)
+  if (!is.null(other)) found[more] <- Map(function(ran, own) c(ran, stated = own$out), answers(words, batch[more], other), found[more])
+  hint <- if (!wide) hints_of_wide$unasked else if (is.null(other) && length(more)) hints_of_wide$absent else hints_of_wide$asked
+  lapply(found, function(ran) c(ran, hint = hint))
+}
+
+# Whether an answer withholds something of which the wider edition seeks evidence.
+is_withheld <- function(ran, command) {
+  mark <- c(
+    certify = "\"item\":\"homothetic\",\"withheld\":", demand = "\"withheld\":", welfare = "\"withheld\":", cost = " lower withheld ",
+    trial = "\nhomothetic withheld"
+  )[command]
+  ran$status %in% 0L && !is.na(mark) && grepl(mark, ran$out, fixed = TRUE, useBytes = TRUE)
+}
+
+hints_of_wide <- list(
+  asked = "rp-wide found no evidence either; docs/USING.md, 'When a verdict is withheld', tells what can be done",
+  unasked = "rp-wide may give it: leave wide = FALSE out",
+  absent = "rp-wide may give it, which is neither beside the program, nor in the library, nor named by the variable RP_WIDE"
+)
+
+hinted <- function(why, hint) if (is.null(hint)) why else paste0(why, "; ", hint)
+
+# Whether an item or a bound is given where the program itself withholds it.
+is_wide <- function(own, stated) is.null(own$withheld) && !is.null(stated$withheld)
+
 # Runs the program over each list of files in a folder of its own, by one shell, or on Windows by none. No name outside of these
 # folders is told to it, and each word is quoted.
 by_program <- function(words, batch, exe, shell = !on_windows()) {
@@ -158,6 +207,13 @@ told_refusal <- function(ran) {
 # Returns the output of a call that ends with a status of `good`; else stops with a refusal of one of the sheets, or with
 # rp_failed.
 ask <- function(words, files, engine, sheets = list(), good = 0) text_of(answer(words, files, engine), sheets, good)
+
+# The same of words by which something may be withheld: a list of the output, and of `stated` and `hint` of `wide_answers`.
+ask_wide <- function(words, files, engine, sheets = list(), wide = TRUE) {
+  if (!is_switch(wide)) bad_data("wide is TRUE or FALSE")
+  ran <- wide_answers(words, list(files), engine, wide)[[1]]
+  list(text = text_of(ran, sheets), stated = ran$stated, hint = ran$hint)
+}
 
 text_of <- function(ran, sheets, good = 0) {
   if (ran$status %in% good) return(ran$out)

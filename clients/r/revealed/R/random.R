@@ -42,8 +42,7 @@ random_from <- function(own, item, text) {
 }
 
 # Of the types that make the choices, or as many of them as rational types can: a row for each, or one for each patch that they
-# have, with its budget and the share of that budget's choices that they make there. What signs a patch has to the other budgets
-# the program does not tell.
+# have, with its budget and the share of that budget's choices that they make there.
 as.data.frame.rp_random <- function(x, row.names = NULL, optional = FALSE, what = c("types", "patches"), ...) {
   if (chosen(what, c("types", "patches"), "what") == "patches") return(patches_of(x))
   share <- if (is.null(x$parts)) exact(character()) else x$parts$share
@@ -90,4 +89,45 @@ summary.rp_random <- function(object, ...) {
     paste("random violated: at most", bare(object$share), "of the choices are those of rational types")
   }
   summary_of(as.data.frame(object), title)
+}
+
+# ---- patches
+
+rp_patches <- function(budgets, choices, per = NULL, digits = NULL, numbers = "exact", exe = NULL) {
+  own <- choices_of(budgets, choices, per, forms_of(digits, numbers))
+  text <- ask(c("patches", "budgets.csv", "choices.csv", units_of(own$per)), choice_files(own), engine_of(exe), list(own$budgets, own$choices))
+  reading(text, patches_from(own, report_of(text)))
+}
+
+rp_choice_patches <- rp_patches
+
+# The lines read `patch 1 budget 1 units 3 sides on below`, with a word for each budget.
+patches_from <- function(own, report) {
+  head <- numbers_of(report$lines[1], "^budgets ([0-9]+) patches ([0-9]+) total ([0-9]+)$")
+  lines <- report$lines[-1]
+  if (!is.null(own$per)) {
+    stopifnot(identical(lines[1], paste("apportioned per", own$per)))
+    lines <- lines[-1]
+  }
+  said <- vapply(lines, numbers_of, character(4), form = "^patch ([0-9]+) budget ([0-9]+) units ([0-9]+) sides((?: (?:above|on|below))+)$", USE.NAMES = FALSE)
+  sides <- do.call(rbind, strsplit(trimws(said[4, ]), " ", fixed = TRUE))
+  labels <- own$budgets$labels
+  stopifnot(ncol(said) == as.integer(head[2]), identical(said[1, ], as.character(seq_len(ncol(said)))), ncol(sides) == as.integer(head[1]))
+  stopifnot(ncol(sides) == length(labels))
+  colnames(sides) <- as.character(labels)
+  structure(class = "rp_patches", list(
+    patch = as.integer(said[1, ]), budget = as.integer(said[2, ]), units = said[3, ], share = exact(vapply(said[3, ], fraction, "", den = head[3], USE.NAMES = FALSE)),
+    sides = sides, total = head[3], report = report$lines, choices = own
+  ))
+}
+
+as.data.frame.rp_patches <- function(x, row.names = NULL, optional = FALSE, ...) {
+  sides <- apply(x$sides, 1, paste, collapse = " ")
+  frame_of(c(list(patch = x$patch, budget = x$budget, units = x$units), beside("share", x$share), list(sides = sides)))
+}
+
+print.rp_patches <- function(x, ...) {
+  cat("budgets", ncol(x$sides), "patches", length(x$patch), "total", x$total, "\n")
+  print(as.data.frame(x)[c("patch", "budget", "share_exact", "sides")], row.names = FALSE)
+  invisible(x)
 }

@@ -127,16 +127,19 @@ as.data.frame.rp_power <- function(x, row.names = NULL, optional = FALSE, ...) f
 
 # ---- trials
 
-rp_trial <- function(seed, rows, goods, exe = NULL) {
+rp_trial <- function(seed, rows, goods, exe = NULL, wide = TRUE) {
   words <- c(word_within(seed, "seed", "trial", "SEED"), word_within(rows, "rows", "trial", "ROWS"), word_within(goods, "goods", "trial", "GOODS"))
-  text <- ask(c("trial", words), list(), engine_of(exe))
+  given <- ask_wide(c("trial", words), list(), engine_of(exe), wide = wide)
+  text <- given$text
   reading(text, {
     report <- report_of(text)
     stopifnot(identical(numbers_of(line_of(report, "trial"), "^([0-9]+) rows ([0-9]+) goods ([0-9]+)$"), words))
     index <- numbers_of(line_of(report, "efficiency"), "^([0-9]+(?:/[0-9]+)?) attained (yes|no)$")
+    homothetic <- holds_in(report, "homothetic", may_be_withheld = TRUE)
     structure(class = "rp_trial", list(
       garp = holds_in(report, "garp"), efficiency = exact(index[1]), ccei = nearest_double(exact(index[1])), attained = index[2] == "yes",
-      homothetic = holds_in(report, "homothetic", may_be_withheld = TRUE), quasilinear = holds_in(report, "quasilinear"), words = words
+      homothetic = homothetic, quasilinear = holds_in(report, "quasilinear"), words = words,
+      wide = if (!is.null(given$stated) && !is.na(homothetic)) "homothetic" else character()
     ))
   })
 }
@@ -147,7 +150,7 @@ print.rp_trial <- function(x, ...) {
   cat(
     paste("trial", x$words[1], "rows", x$words[2], "goods", x$words[3]), paste("garp", verdict_word(x$garp)),
     paste("efficiency", bare(x$efficiency), "attained", if (x$attained) "yes" else "no"),
-    paste("homothetic", verdict_word(x$homothetic)), paste("quasilinear", verdict_word(x$quasilinear)), sep = "\n"
+    paste0("homothetic ", verdict_word(x$homothetic), if (length(x$wide)) by_wide), paste("quasilinear", verdict_word(x$quasilinear)), sep = "\n"
   )
   invisible(x)
 }

@@ -2,37 +2,39 @@
 
 tests <- c("garp", "afriat", "homothetic", "quasilinear")
 
-rp_test <- function(p, q = NULL, digits = NULL, levels = NULL, numbers = "exact", exe = NULL) {
-  verdict_on(table_of(p, q, forms_of(digits, numbers), levels), engine_of(exe))
+rp_test <- function(p, q = NULL, digits = NULL, levels = NULL, numbers = "exact", exe = NULL, wide = TRUE) {
+  verdict_on(table_of(p, q, forms_of(digits, numbers), levels), engine_of(exe), wide)
 }
 
 rp_analyse <- rp_test
 
 # Returns the certificate itself: the verdicts with their evidence, as JSON.
-rp_certify <- function(p, q = NULL, digits = NULL, levels = NULL, numbers = "exact", exe = NULL) {
-  rp_test(p, q, digits, levels, numbers, exe)$certificate
+rp_certify <- function(p, q = NULL, digits = NULL, levels = NULL, numbers = "exact", exe = NULL, wide = TRUE) {
+  rp_test(p, q, digits, levels, numbers, exe, wide)$certificate
 }
 
-verdict_on <- function(table, engine) {
-  text <- ask(c("certify", "table.csv"), list(table.csv = csv_lines(table)), engine, list(table))
-  read_verdict(table, text)
+verdict_on <- function(table, engine, wide = TRUE) {
+  given <- ask_wide(c("certify", "table.csv"), list(table.csv = csv_lines(table)), engine, list(table), wide)
+  read_verdict(table, given$text, given$stated, given$hint)
 }
 
-read_verdict <- function(table, text) reading(text, verdict_from(table, text))
+# Where the certificate is the wider edition's, `stated` is the program's own.
+read_verdict <- function(table, text, stated = NULL, hint = NULL) reading(text, verdict_from(table, text, stated, hint))
 
-verdict_from <- function(table, text) {
+verdict_from <- function(table, text, stated, hint) {
   items <- by_item(items_of(text, "table"))
+  own <- if (is.null(stated)) items else by_item(items_of(stated, "table"))
   stopifnot(identical(names(items), c("garp", "afriat", "efficiency", "homothetic", "quasilinear")))
   garp <- read_axiom(table, items$garp)
   afriat <- read_afriat(table, items$afriat)
   efficiency <- read_efficiency(table, items$efficiency)
-  homothetic <- read_homothetic(table, items$homothetic)
+  homothetic <- read_homothetic(table, items$homothetic, hint)
   quasilinear <- if (table$own_money) list(verdict = NA, reason = own_money) else read_quasilinear(table, items$quasilinear)
   found <- list(garp = garp, afriat = afriat, homothetic = homothetic, quasilinear = quasilinear)
   structure(class = "rp_test", list(
     garp = garp$verdict, afriat = afriat$verdict, efficiency = efficiency$level, ccei = nearest_double(efficiency$level),
     attained = efficiency$attained, homothetic = homothetic$verdict, quasilinear = quasilinear$verdict,
-    reasons = unlist(lapply(found, `[[`, "reason")),
+    reasons = unlist(lapply(found, `[[`, "reason")), wide = names(items)[unlist(Map(is_wide, items, own))],
     ranks = garp$ranks, cycle = garp$cycle, utility = afriat$utility, lambda = afriat$lambda,
     evidence = lapply(c(found, list(efficiency = efficiency)), function(it) it[!names(it) %in% c("verdict", "reason", "level", "attained")]),
     certificate = text, table = table
@@ -89,12 +91,13 @@ read_efficiency <- function(table, item) {
   )
 }
 
-read_homothetic <- function(table, item) {
+read_homothetic <- function(table, item, hint = NULL) {
   switch(case_of(item, c("cycle", "withheld", "values")),
     cycle = list(verdict = FALSE, start = one_exact(item$start), cycle = walk_of(table, item$cycle)),
     withheld = {
       ends <- quoted(walk_of(table, item$withheld[2:3]))
-      list(verdict = NA, reason = paste0("after ", item$withheld[1], " steps the product from ", ends[1], " to ", ends[2], " gets past its width"))
+      why <- paste0("after ", item$withheld[1], " steps the product from ", ends[1], " to ", ends[2], " gets past its width")
+      list(verdict = NA, reason = hinted(why, hint))
     },
     values = list(verdict = TRUE, values = exact_by_label(table, item$values))
   )
@@ -106,6 +109,8 @@ read_quasilinear <- function(table, item) {
 }
 
 # ---- the verdict's methods
+
+by_wide <- " (by rp-wide; rp itself withholds it)"
 
 verdict_word <- function(x) ifelse(is.na(x), "withheld", ifelse(x, "holds", "violated"))
 
@@ -128,7 +133,7 @@ tests_of <- function(own_money) if (isTRUE(own_money)) setdiff(tests, "quasiline
 
 verdict_lines <- function(x) {
   asked <- tests_of(x$table$own_money)
-  lines <- paste(asked, vapply(asked, function(it) verdict_word(x[[it]]), ""))
+  lines <- paste0(asked, " ", vapply(asked, function(it) verdict_word(x[[it]]), ""), ifelse(asked %in% x$wide, by_wide, ""))
   lines <- append(lines, paste("efficiency", bare(x$efficiency), "attained", if (x$attained) "yes" else "no"), 2)
   if (!is.null(x$cycle)) lines <- append(lines, paste(c("cycle", as.character(x$cycle)), collapse = " "), 1)
   c(lines, reason_lines(x$reasons))
@@ -156,7 +161,7 @@ verdict_row <- function(x) {
   frame_of(c(
     list(garp = x$garp, afriat = x$afriat), beside("ccei", x$efficiency, exact_name = "efficiency"),
     list(
-      attained = x$attained, homothetic = x$homothetic, quasilinear = x$quasilinear,
+      attained = x$attained, homothetic = x$homothetic, quasilinear = x$quasilinear, wide = paste(x$wide, collapse = " "),
       reasons = paste(reason_lines(x$reasons), collapse = "; ")
     )
   ))

@@ -10,21 +10,21 @@ Tests whether the inputs of a firm minimise its cost, and with the price of the 
 what an output costs at new prices.
 }
 \usage{
-rp_cost(technology, new, digits = NULL, numbers = "exact", exe = NULL)
-rp_cost_minimisation(technology, new, digits = NULL, numbers = "exact", exe = NULL)
+rp_cost(technology, new, digits = NULL, numbers = "exact", exe = NULL, wide = TRUE)
+rp_cost_minimisation(technology, new, digits = NULL, numbers = "exact", exe = NULL, wide = TRUE)
 }
 \arguments{
 \item{technology}{a data frame with \code{w_NAME}, the price, and \code{x_NAME}, how much was used, for each input, \code{y}, the output, and
 perhaps \code{p}, its price.}
 \item{new}{a data frame with \code{w_NAME} for each input and \code{y}, the output that is asked for; at most 16 rows.}
 \item{digits, numbers}{as for \code{\link{rp_test}}: of prices, and of inputs and outputs.}
-\item{exe}{as for \code{\link{rp_test}}.}
+\item{exe, wide}{as for \code{\link{rp_test}}.}
 }
 \value{
 An \code{rp_cost}: \code{cost} and, where the output has a price, \code{profit}, each \code{TRUE} or \code{FALSE} with
 \code{cost_pair} and \code{profit_pair}, the first two observations that break them; and \code{bounds}, a row for each of \code{new}:
 the output, \code{lower}, \code{upper}, and \code{at}, the observation whose inputs cost the upper bound. A bound that is not there is
-\code{NA}, and \code{reason} says why.
+\code{NA}, and \code{reason} says why; \code{wide} is whether \code{rp} itself withholds the lower one.
 }
 \references{
 Varian, H. (1984) The nonparametric approach to production analysis. \emph{Econometrica} 52, 579--597.

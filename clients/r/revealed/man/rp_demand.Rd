@@ -10,11 +10,13 @@ Gives for each new budget and each good the infimum and the supremum over all bu
 still meets the axiom.
 }
 \usage{
-rp_demand(p, q = NULL, new, m = NULL, digits = NULL, numbers = "exact", exe = NULL)
-rp_demand_bounds(p, q = NULL, new, m = NULL, digits = NULL, numbers = "exact", exe = NULL)
+rp_demand(p, q = NULL, new, m = NULL, digits = NULL, numbers = "exact", exe = NULL,
+  wide = TRUE)
+rp_demand_bounds(p, q = NULL, new, m = NULL, digits = NULL, numbers = "exact", exe = NULL,
+  wide = TRUE)
 }
 \arguments{
-\item{p, q, digits, numbers, exe}{as for \code{\link{rp_test}}.}
+\item{p, q, digits, numbers, exe, wide}{as for \code{\link{rp_test}}.}
 \item{new}{new prices: a matrix or data frame with a column for each good, or one row of numbers, put to the goods by name
 where there are names.}
 \item{m}{what is spent: one number, or one for each row; a data frame of new prices may have the column \code{m} itself. It
@@ -23,7 +25,7 @@ is rounded as prices are.}
 \value{
 An \code{rp_demand}: \code{garp}, and \code{bounds}, a data frame with a row for each budget and good: \code{lower},
 \code{upper}, and \code{inner}, the amount in one bundle that keeps the axiom. A bound that is withheld is \code{NA}, and
-\code{reason} says why. \code{below} and \code{strict} have the rows of the table that each budget is revealed preferred to.
+\code{reason} says why. \code{wide} names the bounds of a row that \code{rp} itself withholds, \code{lower} and \code{upper}. \code{below} and \code{strict} have the rows of the table that each budget is revealed preferred to.
 Where the axiom fails no bundle keeps it, and all bounds are \code{NA}. The numbers of \code{bounds} are exact;
 \code{as.data.frame} has doubles beside them. \code{certificate} is for \code{\link{rp_check}}.
 }

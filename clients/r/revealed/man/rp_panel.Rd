@@ -12,7 +12,7 @@ cause, the call stops with it (\code{rp_all_refused}).
 \usage{
 rp_panel(data, id, ask = c("test", "pump", "power"), digits = NULL, levels = NULL,
   seed = NULL, draws = 1000, workers = NULL, numbers = "exact", progress = interactive(),
-  exe = NULL)
+  exe = NULL, wide = TRUE)
 }
 \arguments{
 \item{data}{a data frame with columns \code{p_NAME} and \code{q_NAME} for each good, and perhaps \code{obs} and \code{e}. The
@@ -21,7 +21,7 @@ rows of a household need not stand together. Budget lines of two goods may be ke
 pumps are not asked of it, and \code{quasilinear} is \code{NA}.}
 \item{id}{the name of the column, or of the columns, that tell the households apart.}
 \item{ask}{what is asked of each: the verdicts, the money pump, or the power of the test.}
-\item{digits, levels, numbers, exe}{as for \code{\link{rp_test}}. What fits is told by all households together.}
+\item{digits, levels, numbers, exe, wide}{as for \code{\link{rp_test}}. What fits is told by all households together.}
 \item{seed, draws}{as for \code{\link{rp_power}}, the same for each household.}
 \item{workers}{how many run at once; else as many as there are processors, two where R's checks ask for that, and one on Windows.}
 \item{progress}{whether a bar is shown, on standard error.}
@@ -31,8 +31,8 @@ An \code{rp_panel}: \code{keys}, a data frame of \code{id} in the order in which
 \code{answers}, a list of as many answers, or conditions of the class \code{rp_error}. \code{as.data.frame} gives a row for
 each, with the program's \code{status} (0 with an answer, 4 with a refusal, \code{NA} where it was not asked), a
 \code{message}, and: of tests \code{garp}, \code{afriat}, \code{homothetic}, \code{quasilinear} and \code{attained} as logicals,
-\code{ccei} as the nearest double, which is 1 for an index of 1 alone, and \code{efficiency}, the exact index; of
-money pumps \code{pump} and \code{pump_ratio} likewise; of power \code{power}, \code{violations} and \code{draws}.
+\code{ccei} as the nearest double, which is 1 for an index of 1 alone, \code{efficiency}, the exact index, and \code{wide}, the names of the verdicts that
+\code{rp} itself withholds; of money pumps \code{pump} and \code{pump_ratio} likewise; of power \code{power}, \code{violations} and \code{draws}.
 }
 \examples{
 if (!is.null(rp_program(must = FALSE))) {

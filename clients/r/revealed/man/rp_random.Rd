@@ -35,8 +35,8 @@ An \code{rp_random}: \code{rational}, \code{TRUE}, \code{FALSE}, or \code{NA} wh
 says why; \code{share}, the greatest share; \code{parts}, the types that make it, each with its patches and its share; and,
 where \code{rational} is \code{FALSE}, \code{weights} of the patches by which each rational type weighs 1 or more.
 
-Patches are counted from 1, budget by budget, and within one by the first choice that belongs to them. What signs a patch has to the
-other budgets the program does not tell.
+Patches are counted from 1, budget by budget, and within one by the first choice that belongs to them; \code{\link{rp_patches}} tells
+on which side of every budget each lies.
 }
 \references{
 Kitamura, Y. and Stoye, J. (2018) Nonparametric analysis of random utility models. \emph{Econometrica} 86, 1883--1909.

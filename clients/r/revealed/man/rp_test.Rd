@@ -11,9 +11,12 @@ Tests the generalized axiom of revealed preference and Afriat's inequalities, gi
 tests whether a homothetic utility, or one that is linear in money, rationalizes the data.
 }
 \usage{
-rp_test(p, q = NULL, digits = NULL, levels = NULL, numbers = "exact", exe = NULL)
-rp_analyse(p, q = NULL, digits = NULL, levels = NULL, numbers = "exact", exe = NULL)
-rp_certify(p, q = NULL, digits = NULL, levels = NULL, numbers = "exact", exe = NULL)
+rp_test(p, q = NULL, digits = NULL, levels = NULL, numbers = "exact", exe = NULL,
+  wide = TRUE)
+rp_analyse(p, q = NULL, digits = NULL, levels = NULL, numbers = "exact", exe = NULL,
+  wide = TRUE)
+rp_certify(p, q = NULL, digits = NULL, levels = NULL, numbers = "exact", exe = NULL,
+  wide = TRUE)
 
 \method{as.data.frame}{rp_test}(x, row.names = NULL, optional = FALSE,
   what = c("verdicts", "observations"), ...)
@@ -36,13 +39,16 @@ rounded.}
 \item{levels}{the level of each observation in whole thousandths from 1 to 1000, one number or one for each; a data frame may
 have them as its column \code{e}.}
 \item{exe}{the program or its library; else one is looked for as \code{\link{rp_program}} says.}
+\item{wide}{whether what the program withholds is asked of its wider edition: the wider call of the library, else the program
+that the variable \code{RP_WIDE} names, or \code{rp-wide} beside the program. \code{FALSE} asks the program alone.}
 \item{x}{an answer.}
 \item{what}{a row of verdicts, or a row for each observation.}
 \item{row.names, optional, ...}{not used.}
 }
 \value{
 An \code{rp_test} with \code{garp}, \code{afriat}, \code{homothetic} and \code{quasilinear}, each \code{TRUE} or
-\code{FALSE}, and \code{NA} where the verdict is withheld: then \code{reasons} says why. \code{efficiency} is the critical cost
+\code{FALSE}, and \code{NA} where the verdict is withheld: then \code{reasons} says why. \code{wide} names the verdicts that \code{rp} itself withholds and its
+wider edition gives, with evidence that \code{\link{rp_check}} accepts. \code{efficiency} is the critical cost
 efficiency index, \code{ccei} the nearest double, but below 1 where the index is, and
 \code{attained} tells whether the axiom holds at it. \code{ranks}, \code{utility} and \code{lambda} are there where the axiom
 holds, by the labels of the rows, and \code{cycle} where it fails. \code{evidence} has the rest of what shows each verdict,

@@ -8,17 +8,17 @@
 Makes a table by a seed, of prices from 1 to 99 and quantities from 0 to 99, and gives the verdicts on it without evidence.
 }
 \usage{
-rp_trial(seed, rows, goods, exe = NULL)
-rp_random_trial(seed, rows, goods, exe = NULL)
+rp_trial(seed, rows, goods, exe = NULL, wide = TRUE)
+rp_random_trial(seed, rows, goods, exe = NULL, wide = TRUE)
 }
 \arguments{
 \item{seed}{a whole number below 2^64; one above 2^53 as a text.}
 \item{rows, goods}{how many observations, 1 to 256, and goods, 1 to 16.}
-\item{exe}{as for \code{\link{rp_test}}.}
+\item{exe, wide}{as for \code{\link{rp_test}}.}
 }
 \value{
-An \code{rp_trial}: \code{garp}, \code{efficiency}, \code{ccei}, \code{attained}, \code{homothetic} and \code{quasilinear}, as
-\code{\link{rp_test}} has them.
+An \code{rp_trial}: \code{garp}, \code{efficiency}, \code{ccei}, \code{attained}, \code{homothetic}, \code{quasilinear} and
+\code{wide}, as \code{\link{rp_test}} has them.
 }
 \examples{
 if (!is.null(rp_program(must = FALSE))) {

@@ -9,17 +9,17 @@
 Gives for each row of new prices and each observation bounds on what it costs at these prices to be as well off as there.
 }
 \usage{
-rp_welfare(p, q = NULL, new, digits = NULL, numbers = "exact", exe = NULL)
-rp_welfare_bounds(p, q = NULL, new, digits = NULL, numbers = "exact", exe = NULL)
+rp_welfare(p, q = NULL, new, digits = NULL, numbers = "exact", exe = NULL, wide = TRUE)
+rp_welfare_bounds(p, q = NULL, new, digits = NULL, numbers = "exact", exe = NULL, wide = TRUE)
 }
 \arguments{
-\item{p, q, digits, numbers, exe}{as for \code{\link{rp_test}}.}
+\item{p, q, digits, numbers, exe, wide}{as for \code{\link{rp_test}}.}
 \item{new}{new prices, as for \code{\link{rp_demand}}.}
 }
 \value{
 An \code{rp_welfare}: \code{garp}, and \code{bounds}, a data frame with a row for each row of new prices and each
 observation: \code{lower}, \code{upper}, and \code{at}, the observation whose bundle costs the upper bound. A lower bound that
-is withheld is \code{NA}, and \code{reason} says why. Where the axiom fails all bounds are \code{NA}.
+is withheld is \code{NA}, and \code{reason} says why; \code{wide} is whether \code{rp} itself withholds it. Where the axiom fails all bounds are \code{NA}.
 }
 \examples{
 if (!is.null(rp_program(must = FALSE))) {

@@ -104,14 +104,14 @@ static SEXP revealed_answer(SEXP library, SEXP words, SEXP names, SEXP files) {
     }
 }
 
-/* Returns the call of the library that is inside the package, or NULL. */
-static SEXP revealed_own(void) {
-    rp_call *call = revealed_inside();
+/* Returns the call of the library that is inside the package, or its wider one, or NULL. */
+static SEXP revealed_own(SEXP wide) {
+    rp_call *call = revealed_inside(asLogical(wide) == TRUE);
     return call ? R_MakeExternalPtrFn((DL_FUNC)call, R_NilValue, R_NilValue) : R_NilValue;
 }
 
 static const R_CallMethodDef CALLS[] = {
-    {"revealed_answer", (DL_FUNC)&revealed_answer, 4}, {"revealed_own", (DL_FUNC)&revealed_own, 0}, {NULL, NULL, 0}};
+    {"revealed_answer", (DL_FUNC)&revealed_answer, 4}, {"revealed_own", (DL_FUNC)&revealed_own, 1}, {NULL, NULL, 0}};
 
 void R_init_revealed(DllInfo *info) {
     R_registerRoutines(info, NULL, CALLS, NULL, NULL);

@@ -176,7 +176,7 @@ stopifnot(grepl("goods are 'bread', 'wine'", said))
 
 # ---- frames that behave as frames
 d <- as.data.frame(rp_demand(years, new = c(bread = 2, wine = 2), m = 6))
-stopifnot(identical(names(d), c("budget", "good", "lower", "lower_exact", "upper", "upper_exact", "inner", "inner_exact", "reason")))
+stopifnot(identical(names(d), c("budget", "good", "lower", "lower_exact", "upper", "upper_exact", "inner", "inner_exact", "wide", "reason")))
 stopifnot(is.numeric(d$lower), mean(d$upper) == 2, identical(order(d$lower), 1:2), inherits(d$lower_exact, "rp_exact"))
 set.seed(3)
 many <- data.frame(id = rep(1:30, each = 5))

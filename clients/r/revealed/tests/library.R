@@ -79,17 +79,24 @@ P <- rbind(c(1, 2), c(2, 1))
 Q <- rbind(c(2, 1), c(1, 2))
 budgets <- data.frame(p_a = 1:2, p_b = 2:1, w = 4)
 choices <- data.frame(budget = c(1, 1, 2, 2), q_a = c(2, 0, 1, 2), q_b = c(1, 2, 2, 0), n = c(1, 3, 2, 2))
+# Products on the way pass 2^127 - 1, so rp withholds the homothetic verdict.
+long_p <- rbind(c(4194304, 1), c(1, 3145727), c(1, 4194304))
+long_q <- rbind(c(2097151, 4194304), c(1747627, 2796203), c(4194304, 2097151))
 firm <- data.frame(y = 1:2, p = 5:4, w_a = 1:2, w_b = 2:1, x_a = c(2, 2), x_b = 1:2)
 for (call in list(
   function(exe) rp_test(P, P, exe = exe), function(exe) rp_test(P, P, levels = c(799, 1000), exe = exe), function(exe) rp_pairs(P, P, exe = exe),
   function(exe) rp_pump(P, P, exe = exe), function(exe) rp_power(P, P, seed = 7, draws = 100, exe = exe), function(exe) rp_trial(7, 30, 3, exe = exe),
   function(exe) rp_demand(P, Q, new = c(1, 1), m = 3, exe = exe), function(exe) rp_welfare(P, Q, new = c(1, 1), exe = exe),
   function(exe) rp_utility(P, Q, bundles = c(1, 1), exe = exe), function(exe) rp_random(budgets, choices, exe = exe),
-  function(exe) rp_random(budgets, choices[c(1, 3), ], per = 5, exe = exe),
+  function(exe) rp_random(budgets, choices[c(1, 3), ], per = 5, exe = exe), function(exe) rp_patches(budgets, choices, exe = exe),
+  function(exe) rp_test(long_p, long_q, exe = exe, wide = FALSE),
   function(exe) rp_menus(data.frame(menu = "ab", choice = c("a", "b"), n = 1:2), exe = exe),
   function(exe) rp_cost(firm, data.frame(w_a = 1, w_b = 1, y = 3), exe = exe), function(exe) rp_check(rp_test(P, P), rp_test(P, P), exe = exe),
   function(exe) rp_check(list(P, Q), sub("4/5", "9/10", rp_test(P, P)$certificate), exe = exe)
 )) stopifnot(!inherits(both(call), "told"))
+# the wider call
+stopifnot(!is.null(revealed:::library_call(library, wide = TRUE)), rp_test(long_p, long_q, exe = library)$wide == "homothetic")
+if (!is.null(revealed:::wide_engine(list(program = program)))) both(function(exe) rp_test(long_p, long_q, exe = exe))
 for (it in list(
   list(function(exe) rp_test(rbind(0:1), rbind(1:2), exe = exe), "ZeroPrice"), list(function(exe) rp_demand(P, Q, new = c(1, 0), m = 3, exe = exe), "ZeroPrice"),
   list(function(exe) rp_random(budgets, choices[1:2, ], exe = exe), "NoChoices"), list(function(exe) rp_check(list(P, P), "{", exe = exe), "NotJson")

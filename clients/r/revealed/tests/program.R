@@ -143,6 +143,12 @@ stopifnot(identical(rp_random(unname(as.matrix(budgets)), unname(as.matrix(choic
 stopifnot(rp_random(budgets, choices[c(1, 3), ], per = 5)$rational, nrow(as.data.frame(r)) == 2)
 wrong <- caught(rp_random(budgets, choices[1:2, ]), "rp_refused")
 stopifnot(wrong$fault == "NoChoices", wrong$budget == 2)
+found <- rp_patches(cbind(budgets, obs = c("low", "high")), transform(choices, budget = rep(c("low", "high"), each = 2)))
+stopifnot(identical(found$patch, 1:4), identical(found$budget, c(1L, 1L, 2L, 2L)), identical(texts(found$share), c("1/4", "3/4", "1/2", "1/2")))
+stopifnot(identical(found$sides[, "low"], c("on", "on", "above", "below")), identical(found$sides[, "high"], c("above", "below", "on", "on")))
+stopifnot(identical(as.data.frame(found)$sides, c("on above", "on below", "above on", "below on")), any(grepl("patches 4", capture.output(print(found)))))
+stopifnot(identical(rp_choice_patches(budgets, choices, per = 10)$units, c("3", "7", "5", "5")))
+caught(rp_patches(budgets, choices[1:2, ]), "rp_refused")
 wrong <- caught(rp_random(cbind(budgets, obs = c("low", "high")), transform(choices, budget = "middle")), "rp_refused")
 stopifnot(wrong$fault == "UnknownBudget", wrong$record == 1)
 

@@ -1,0 +1,221 @@
+"""What the program withholds and its wider edition gives: by stand-ins that write what they are told, and by the programs that are here."""
+
+import contextlib
+import json
+import os
+import pathlib
+import shutil
+import tempfile
+import unittest
+from fractions import Fraction
+
+import revealed
+from revealed import Failed, NoProgram, plain, program, wider
+
+# Products on the way pass 2^127 - 1: `rp` withholds the homothetic verdict after 2 steps from 3 to 1.
+P = [[4194304, 1], [1, 3145727], [1, 4194304]]
+Q = [[2097151, 4194304], [1747627, 2796203], [4194304, 2097151]]
+FIRM = {"y": [1, 2], "p": [5, 4], "w_a": [1, 2], "w_b": [2, 1], "x_a": [2, 2], "x_b": [1, 2]}
+ASKED = {"w_a": [1], "w_b": [1], "y": [3]}
+
+
+@contextlib.contextmanager
+def variables(**given):
+    """Sets variables of the environment, or takes them away."""
+    before = {name: os.environ.get(name) for name in given}
+    try:
+        for name, value in given.items():
+            os.environ.pop(name, None)
+            if value is not None:
+                os.environ[name] = value
+        yield
+    finally:
+        for name, value in before.items():
+            os.environ.pop(name, None)
+            if value is not None:
+                os.environ[name] = value
+
+
+@contextlib.contextmanager
+def stand_ins(wide=None, status=0, **rp):
+    """Yields a program that writes these texts, by command, in a folder that has its wider edition with the others, if there is one."""
+    with tempfile.TemporaryDirectory(prefix="ein Ordner é ") as folder, variables(RP_WIDE=None, RP_LIBRARY=None):
+        for name, texts, ends in (("rp", rp, 0), ("rp-wide", wide, status)):
+            if texts is None:
+                continue
+            path = pathlib.Path(folder) / name
+            path.write_text(f'#!/bin/sh\necho "$1" >>"$0.asked"\ncat "$0.$1"\nexit {ends}\n', encoding="utf-8")
+            path.chmod(0o755)
+            for command, text in texts.items():
+                (pathlib.Path(folder) / f"{name}.{command}").write_text(text, encoding="utf-8")
+        yield os.path.join(folder, "rp")
+
+
+def withholding(answer, change):
+    """Returns the certificate of an answer by whole numbers without bound, and the same with a part that is withheld."""
+    whole = answer.certificate.data.decode()
+    value = json.loads(whole)
+    change(value["items"])
+    return json.dumps(value, sort_keys=True, separators=(",", ":")) + "\n", whole
+
+
+def homothetic(items):
+    items[3] = {"item": "homothetic", "withheld": [2, 3, 1]}
+
+
+class Verdicts(unittest.TestCase):
+    def setUp(self):
+        self.own, self.wide = withholding(plain.analyse(P, Q), homothetic)
+
+    def test_what_is_withheld_is_asked_of_the_wider_edition(self):
+        with stand_ins({"certify": self.wide}, certify=self.own) as exe:
+            verdict = revealed.analyse(P, Q, exe=exe)
+            self.assertEqual((verdict.homothetic, verdict.wide, verdict.reasons), (True, ["homothetic"], {}))
+            self.assertEqual(verdict.as_dict()["wide"], ["homothetic"])
+            self.assertIn("homothetic holds (by rp-wide; rp itself withholds it)", repr(verdict))
+            self.assertEqual((verdict.certificate.data, verdict.certificate.stated.data), (self.wide.encode(), self.own.encode()))
+            self.assertEqual(revealed.certify(P, Q, exe=exe).data, self.wide.encode())
+            verdict = revealed.analyse(P, Q, exe=exe, wide=False)
+            self.assertEqual((verdict.homothetic, verdict.wide, verdict.certificate.stated), (None, [], None))
+            self.assertIn("leave wide=False out", verdict.reasons["homothetic"])
+            with self.assertRaises(revealed.BadData):
+                revealed.analyse(P, Q, exe=exe, wide="no")
+
+    def test_where_nothing_is_withheld_it_is_not_asked(self):
+        with stand_ins({}, certify=self.wide) as exe:
+            verdict = revealed.analyse(P, Q, exe=exe)
+            self.assertEqual((verdict.homothetic, verdict.wide, verdict.certificate.stated), (True, [], None))
+            self.assertFalse(os.path.exists(f"{exe}-wide.asked"))
+
+    def test_what_stays_withheld_says_what_to_do(self):
+        with stand_ins({"certify": self.own}, certify=self.own) as exe:
+            verdict = revealed.analyse(P, Q, exe=exe)
+            self.assertEqual((verdict.homothetic, verdict.wide), (None, []))
+            self.assertTrue(verdict.reasons["homothetic"].endswith(wider.ASKED))
+        with stand_ins(certify=self.own) as exe:
+            self.assertTrue(revealed.analyse(P, Q, exe=exe).reasons["homothetic"].endswith(wider.ABSENT))
+
+    def test_where_the_wider_program_is(self):
+        with stand_ins({"certify": self.wide}, certify=self.own) as exe:
+            self.assertEqual(program.wide_way(exe), (None, f"{exe}-wide"))
+            linked = os.path.join(os.path.dirname(exe), "linked")
+            os.mkdir(linked)
+            os.symlink(exe, os.path.join(linked, "rp"))
+            self.assertEqual(program.wide_beside(os.path.join(linked, "rp")), os.path.realpath(f"{exe}-wide"))
+            moved = shutil.move(f"{exe}-wide", os.path.join(linked, "another"))
+            self.assertEqual(program.wide_way(exe), None)
+            with variables(RP_WIDE=moved):
+                self.assertEqual(program.wide_way(exe), (None, moved))
+            with variables(RP_WIDE="/nowhere/rp-wide"):
+                with self.assertRaises(NoProgram):
+                    revealed.analyse(P, Q, exe=exe)
+            # as `rt` builds both
+            built = pathlib.Path(os.path.dirname(exe)) / "crates"
+            for name in ("rp", "rp_wide"):
+                (built / name / "out").mkdir(parents=True)
+                shutil.copy(exe, built / name / "out" / name)
+            self.assertEqual(program.wide_beside(str(built / "rp" / "out" / "rp")), str(built / "rp_wide" / "out" / "rp_wide"))
+
+    def test_a_wider_program_that_fails(self):
+        with stand_ins({"certify": ""}, status=9, certify=self.own) as exe:
+            with self.assertRaises(Failed) as caught:
+                revealed.analyse(P, Q, exe=exe)
+            self.assertEqual(caught.exception.status, 9)
+
+    def test_a_panel(self):
+        frame = {"home": ["u"] * 3 + ["v"] * 3, **{f"p_{it}": [row[it] for row in P] * 2 for it in (0, 1)}}
+        frame.update({f"q_{it}": [row[it] for row in Q] * 2 for it in (0, 1)})
+        with stand_ins({"certify": self.wide}, certify=self.own) as exe:
+            found = revealed.panel(frame, "home", exe=exe, progress=False)
+            self.assertEqual([(row.verdict.homothetic, row.verdict.wide) for row in found], [(True, ["homothetic"])] * 2)
+            self.assertEqual([record["wide"] for record in found.records()], ["homothetic"] * 2)
+            self.assertIn("wide", found.names())
+            found = revealed.panel(frame, "home", exe=exe, progress=False, wide=False)
+            self.assertEqual([record["wide"] for record in found.records()], [""] * 2)
+            self.assertIn("leave wide=False out", found[0].message)
+        with stand_ins(certify=self.own) as exe:
+            self.assertIn(wider.ABSENT, revealed.panel(frame, "home", exe=exe, progress=False)[0].message)
+
+
+class Bounds(unittest.TestCase):
+    years = [[2, 1], [1, 2]], [[1, 2], [2, 1]]
+
+    def test_demand(self):
+        answer = plain.demand_bounds(*self.years, new=[1, 1], m=3)
+
+        def change(items):
+            items[1]["goods"][0]["lower"] = items[1]["goods"][1]["upper"] = {"withheld": "4"}
+
+        own, wide = withholding(answer, change)
+        with stand_ins({"demand": wide}, demand=own) as exe:
+            (found,) = revealed.demand_bounds(*self.years, new=[1, 1], m=3, exe=exe)
+            first, second = found.bounds
+            self.assertEqual((found.bounds, found.reasons), (answer[0].bounds, {}))
+            self.assertEqual(found.wide, [(first, "lower"), (second, "upper")])
+            (found,) = revealed.demand_bounds(*self.years, new=[1, 1], m=3, exe=exe, wide=False)
+            self.assertEqual((found.bounds[first][0], found.wide, len(found.reasons)), (None, [], 2))
+
+    def test_welfare(self):
+        answer = plain.welfare_bounds(*self.years, new=[1, 1])
+
+        def change(items):
+            items[2]["lower"] = {"withheld": "4"}
+
+        own, wide = withholding(answer, change)
+        with stand_ins({"welfare": wide}, welfare=own) as exe:
+            (found,) = revealed.welfare_bounds(*self.years, new=[1, 1], exe=exe)
+            self.assertEqual((found.lower, found.wide, found.reasons), (answer[0].lower, [2], {}))
+        with stand_ins(welfare=own) as exe:
+            (found,) = revealed.welfare_bounds(*self.years, new=[1, 1], exe=exe)
+            self.assertEqual((found.lower[2], found.wide), (None, []))
+            self.assertIn(wider.ABSENT, found.reasons[2])
+
+    def test_cost_and_trials(self):
+        head = "technology records 2 inputs 2 places 0 0\ncost holds\nprofit violated\npair 1 2\nbounds prices 1 1 output 3 lower "
+        own, wide = f"{head}withheld 7 upper none\n", f"{head}10/3 upper none\nlower x 8 2 y 1:1 2:1 over 3\n"
+        with stand_ins({"cost": wide}, cost=own) as exe:
+            (bound,) = revealed.cost_minimisation(FIRM, ASKED, exe=exe).bounds
+            self.assertEqual((bound.lower, bound.wide, bound.reason), (Fraction(10, 3), True, None))
+            (bound,) = revealed.cost_minimisation(FIRM, ASKED, exe=exe, wide=False).bounds
+            self.assertEqual((bound.lower, bound.wide), (None, False))
+            self.assertIn("leave wide=False out", bound.reason)
+        text = "trial 7 rows 3 goods 2\ngarp holds\nefficiency 1 attained yes\nhomothetic {}\nquasilinear violated\n"
+        with stand_ins({"trial": text.format("holds")}, trial=text.format("withheld")) as exe:
+            found = revealed.random_trial(7, 3, 2, exe=exe)
+            self.assertEqual((found.homothetic, found.wide), (True, ["homothetic"]))
+            self.assertIn("\nhomothetic holds (by rp-wide; rp itself withholds it)\n", repr(found))
+            found = revealed.random_trial(7, 3, 2, exe=exe, wide=False)
+            self.assertEqual((found.homothetic, found.wide), (None, []))
+
+
+class Built(unittest.TestCase):
+    """By the programs, or the library, that are here."""
+
+    def setUp(self):
+        try:
+            if program.wide_way() is not None:
+                return
+        except NoProgram:
+            pass
+        self.skipTest("the wider edition is not here")
+
+    def test_the_worked_table(self):
+        verdict = revealed.analyse(P, Q)
+        self.assertEqual((verdict.homothetic, verdict.wide), (True, ["homothetic"]))
+        values = verdict.evidence["homothetic"]["values"]
+        self.assertEqual(values, {1: 1, 2: Fraction(7330081712811, 8796093022208), 3: Fraction(21990241643181, 35184372088832)})
+        found = revealed.verify(verdict)
+        self.assertTrue(found.accepted and not found.withheld and not found.remarks)
+        self.assertEqual(revealed.check(verdict, verdict.certificate).proved, 5)
+        alone = revealed.analyse(P, Q, wide=False)
+        self.assertEqual((alone.homothetic, alone.certificate.data), (None, verdict.certificate.stated.data))
+        self.assertIn("after 2 steps the product from 3 to 1", alone.reasons["homothetic"])
+
+    def test_where_nothing_is_withheld(self):
+        first = revealed.analyse([[1, 2], [2, 1]], [[1, 2], [2, 1]])
+        second = revealed.analyse([[1, 2], [2, 1]], [[1, 2], [2, 1]], wide=False)
+        self.assertEqual((first.certificate.data, first.wide, second.wide), (second.certificate.data, [], []))
+
+
+if __name__ == "__main__":
+    unittest.main()
