@@ -11,7 +11,7 @@ import {
   sumSentences,
   walkInWords,
 } from "./reports.js";
-import { WIDE, WIDE_MEANS, isWideTest } from "./says.js";
+import { WIDE, WIDE_MEANS, isWideTest, reportBy } from "./says.js";
 import { sentence } from "./sentences.js";
 
 const WITHHELD = "withheld";
@@ -232,7 +232,7 @@ export function tableAnswers(output, table, certificate, hasOwnMoney = false, st
       make("div", { className: figure ? "cards" : "cards many" }, ...cards),
       figure,
     ),
-    folded("The report, as the program prints it", printed(output)),
+    folded(reportBy(stated), printed(output)),
     make("div", { className: "row" }, keep),
   );
 }

@@ -10,6 +10,9 @@ export const WIDE_MEANS =
   `${WIDE} marks what rp itself withholds, because an exact number of its own computation gets too long. The wider ` +
   "edition, rp-wide, found evidence, which the checker takes; the verdict is as true.";
 
+/** What is said above a report: by which edition it is; `stated` is there where it is the wider one's. */
+export const reportBy = (stated) => `The report, as ${stated ? "rp-wide" : "the program"} prints it`;
+
 /** What the column `wide` of a table of many answers means. */
 export const WIDE_COLUMN =
   "The column wide names what rp itself withholds and its wider edition, rp-wide, gives, with evidence that the " +

@@ -1,6 +1,6 @@
 #!/usr/bin/env node
-// The command `rp` for Node on any system: the words, files, streams and statuses of the program, over rp.wasm. As a file
-// of the name rp-wide.mjs it is the command `rp-wide`.
+// The command `rp` for Node on any system: the words, files, streams and statuses of the program, over rp.wasm. By the
+// name rp-wide.mjs this file is the command `rp-wide`.
 import { closeSync, openSync, readFileSync, readSync, writeSync } from "node:fs";
 
 const [REFUSED, WRITE_FAULT, NO_MEMORY, NO_TEXT] = [4, 5, 6, 7];

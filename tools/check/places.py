@@ -67,7 +67,8 @@ FORMATS_LIMITS = {
     "run.certificate_bytes": "A file of at most {} bytes", "patch.patches": "have more than {} patches", "patch.units": "passes {} |",
     "patch.places": "more than {} cells", "menu.letters": "one to {} letters", "types.combinations": "more than {} ways",
     "types.types": "more than {} rational types", "command_line.rows": "1 to {} observations of 1 to 16 goods: below under Trials",
-    "command_line.draws": "draws N behaviours, 1 to {}",
+    "command_line.draws": "draws N behaviours, 1 to {}", "long.bytes": "long file has at most {} bytes", "long.records": "{} records, an id",
+    "long.household_bytes": "an id {} bytes",
 }  # fmt: skip
 USING_LIMITS = {
     "table.largest": "none may be above {}", "table.places": "At most {} places are taken", "types.combinations": "at most {}, and of rational",

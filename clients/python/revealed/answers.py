@@ -469,7 +469,7 @@ SIDES = re.compile(r"patch (\d+) budget (\d+) units (\d+) sides((?: (?:above|on|
 
 def patches_of(choices: Choices, report: str) -> list[Patch]:
     """Returns the patches that a report of `patches` tells, in their order."""
-    with reading(report):
+    with reading(report.encode()):
         head, *lines = report.splitlines()
         told = re.fullmatch(r"budgets (\d+) patches (\d+) total (\d+)", head)
         if told is None:

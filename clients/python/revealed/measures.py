@@ -8,7 +8,7 @@ from fractions import Fraction
 from typing import Any, Sequence
 
 from . import exact
-from .answers import WORDS, by_label, hinted, is_wide, money_scale, reading, walk_of, withheld
+from .answers import BY_WIDE, WORDS, by_label, hinted, is_wide, money_scale, reading, walk_of, withheld
 from .tables import MenuChoices, Sheet, Table, Technology
 from .verifier import reports
 
@@ -98,7 +98,8 @@ class Trial:
         return exact.nearest_double(self.efficiency)
 
     def __repr__(self) -> str:
-        return self.report.decode().rstrip("\n")
+        lines = self.report.decode().rstrip("\n").split("\n")
+        return "\n".join(line + BY_WIDE if line.split(" ")[0] in self.wide else line for line in lines)
 
 
 class CostBound:

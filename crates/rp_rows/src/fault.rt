@@ -20,7 +20,7 @@ pub enum Fault {
 
 impl Fault {
     /// The word of a fault.
-    pub(crate) fn word(self) -> &'static [u8]
+    pub fn word(self) -> &'static [u8]
         ensures { result.now ≡ fault_word self }
     {
         match self {
@@ -32,7 +32,7 @@ impl Fault {
     }
 
     /// The record of a fault, where it has one.
-    pub(crate) fn row(self) -> Option<u32>
+    pub fn row(self) -> Option<u32>
         ensures { result ≡ row_of_fault self }
     {
         match self {
@@ -51,7 +51,7 @@ impl Fault {
     }
 
     /// The column of a fault, where it has one.
-    pub(crate) fn column(self) -> Option<u32>
+    pub fn column(self) -> Option<u32>
         ensures { result ≡ column_of_fault self }
     {
         match self {

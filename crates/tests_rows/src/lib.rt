@@ -1,5 +1,10 @@
-//! Tests of the rows of households: verdicts, fractions rounded down, faults, and how ids and kept texts are quoted.
+//! Tests of the rows of households: verdicts, fractions rounded down, faults, how ids and kept texts are quoted, and the
+//! rows of whole long files.
 #![tactic(auto)]
 
 #[cfg(test)]
+mod panels;
+#[cfg(test)]
 mod rows;
+#[cfg(test)]
+mod wide;

@@ -8,7 +8,8 @@ use std::test::Fail;
 use tests_inputs::tables::{ALONE, AT_799, CONTRADICTION, MORE_AND_LESS, NINE_TENTHS, THREE};
 
 /// The header without columns that are kept.
-const HEADER: &str = "household,observations,goods,garp,efficiency,efficiency_floor,attained,homothetic,\
+const HEADER: &str =
+    "household,observations,goods,garp,efficiency,efficiency_floor,attained,homothetic,\
     quasilinear,pump,pump_floor,power,fault,record,column\n";
 
 const NOTHING: Asked = Asked {
@@ -151,7 +152,8 @@ fn kept_texts(rt: HostRuntime) -> Result<(), Fail> {
     rows.push(row_with(id, Seq::from_vec(kept), Fault::NoId { row: 3 }))?;
     let names: &[&[u8]] = &[b"where", b"when"];
     let found = panel_text(alloc, names, rows.as_slice())?;
-    let wanted = "household,observations,goods,garp,efficiency,efficiency_floor,attained,homothetic,\
+    let wanted =
+        "household,observations,goods,garp,efficiency,efficiency_floor,attained,homothetic,\
         quasilinear,pump,pump_floor,power,fault,record,column,where,when\n\
         ,,,,,,,,,,,,NoId,3,,\"north, east\",\n";
     assert!(&rt; found.as_slice() == wanted.as_bytes());

@@ -150,7 +150,7 @@ print.rp_trial <- function(x, ...) {
   cat(
     paste("trial", x$words[1], "rows", x$words[2], "goods", x$words[3]), paste("garp", verdict_word(x$garp)),
     paste("efficiency", bare(x$efficiency), "attained", if (x$attained) "yes" else "no"),
-    paste("homothetic", verdict_word(x$homothetic)), paste("quasilinear", verdict_word(x$quasilinear)), sep = "\n"
+    paste0("homothetic ", verdict_word(x$homothetic), if (length(x$wide)) by_wide), paste("quasilinear", verdict_word(x$quasilinear)), sep = "\n"
   )
   invisible(x)
 }

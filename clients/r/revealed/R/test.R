@@ -110,6 +110,8 @@ read_quasilinear <- function(table, item) {
 
 # ---- the verdict's methods
 
+by_wide <- " (by rp-wide; rp itself withholds it)"
+
 verdict_word <- function(x) ifelse(is.na(x), "withheld", ifelse(x, "holds", "violated"))
 
 print.rp_test <- function(x, ...) {
@@ -131,7 +133,7 @@ tests_of <- function(own_money) if (isTRUE(own_money)) setdiff(tests, "quasiline
 
 verdict_lines <- function(x) {
   asked <- tests_of(x$table$own_money)
-  lines <- paste0(asked, " ", vapply(asked, function(it) verdict_word(x[[it]]), ""), ifelse(asked %in% x$wide, " (by rp-wide; rp itself withholds it)", ""))
+  lines <- paste0(asked, " ", vapply(asked, function(it) verdict_word(x[[it]]), ""), ifelse(asked %in% x$wide, by_wide, ""))
   lines <- append(lines, paste("efficiency", bare(x$efficiency), "attained", if (x$attained) "yes" else "no"), 2)
   if (!is.null(x$cycle)) lines <- append(lines, paste(c("cycle", as.character(x$cycle)), collapse = " "), 1)
   c(lines, reason_lines(x$reasons))

@@ -1,0 +1,5 @@
+pub mod Numbers
+pub mod Questions
+pub mod Told
+pub mod Endings
+pub mod InnerCauses

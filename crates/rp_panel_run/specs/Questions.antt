@@ -1,0 +1,177 @@
+-- What the words of the program ask: the long file, the name of its column of ids, the names of the columns whose texts are
+-- kept, and what is asked of each household beside the verdicts.
+use Rattle.std.specs.Prelude.{ℕ, ◌-◌, ◌^◌, Bool, true, false, not, ◌==◌, if◌then◌else◌, List, [], ◌∷◌, ◌++◌}
+use Rattle.std.specs.Prelude.{length, drop, codes, Option, None, Some, option_and_then, option_map}
+use Rattle.std.specs.Str.{bytes_eq}
+use Rattle.rp_limits.specs.declared.command_line.TheConstants.{MOST_DRAWS}
+use Rattle.rp_panel_run.specs.Numbers.{number_in}
+use Rattle.rp_rows.specs.declared.asked.Asked.{Asked}
+use Rattle.rp_panel_run.specs.declared.question.Awaited.{Awaited}
+use Rattle.rp_panel_run.specs.declared.question.Awaited.TheVariants as wait
+use Rattle.rp_panel_run.specs.declared.question.Named.{Named}
+use Rattle.rp_panel_run.specs.declared.question.Named.TheVariants as named
+
+-- what is asked by the words that are read so far, and what the next one is. An empty file or name of ids is none yet,
+-- and so are 0 behaviours
+pub record Asking : Type 0 where
+  pub file : List ℕ
+  pub id : List ℕ
+  pub kept : List (List ℕ)
+  pub pump : Bool
+  pub draws : ℕ
+  pub seed : ℕ
+  pub awaited : Awaited
+
+-- before the first word after the program's name
+abbrev pub nothing_read : Asking
+nothing_read = record { file = []; id = []; kept = []; pump = false; draws = 0; seed = 0; awaited = wait.File }
+
+-- a text that may be a file's name: not empty, and not begun as an option is
+abbrev pub is_file_name : List ℕ → Bool
+is_file_name [] = false
+is_file_name (byte ∷ rest) = not (byte == 45)
+
+-- the same where another word is next
+abbrev pub awaiting : Awaited → Asking → Asking
+awaiting next a = record {
+  file = a.file;
+  id = a.id;
+  kept = a.kept;
+  pump = a.pump;
+  draws = a.draws;
+  seed = a.seed;
+  awaited = next;
+}
+
+-- the same with one word more, as what it is
+abbrev pub with_file : Asking → List ℕ → Asking
+with_file a word = record {
+  file = word;
+  id = a.id;
+  kept = a.kept;
+  pump = a.pump;
+  draws = a.draws;
+  seed = a.seed;
+  awaited = wait.Option;
+}
+
+abbrev pub with_id : Asking → List ℕ → Asking
+with_id a word = record {
+  file = a.file;
+  id = word;
+  kept = a.kept;
+  pump = a.pump;
+  draws = a.draws;
+  seed = a.seed;
+  awaited = wait.Option;
+}
+
+abbrev pub with_kept : Asking → List ℕ → Asking
+with_kept a word = record {
+  file = a.file;
+  id = a.id;
+  kept = a.kept ++ word ∷ [];
+  pump = a.pump;
+  draws = a.draws;
+  seed = a.seed;
+  awaited = wait.Option;
+}
+
+abbrev pub with_pump : Asking → Asking
+with_pump a = record {
+  file = a.file;
+  id = a.id;
+  kept = a.kept;
+  pump = true;
+  draws = a.draws;
+  seed = a.seed;
+  awaited = wait.Option;
+}
+
+abbrev pub with_draws : Asking → ℕ → Asking
+with_draws a draws = record {
+  file = a.file;
+  id = a.id;
+  kept = a.kept;
+  pump = a.pump;
+  draws = draws;
+  seed = a.seed;
+  awaited = wait.Seed;
+}
+
+abbrev pub with_seed : Asking → ℕ → Asking
+with_seed a seed = record {
+  file = a.file;
+  id = a.id;
+  kept = a.kept;
+  pump = a.pump;
+  draws = a.draws;
+  seed = seed;
+  awaited = wait.Option;
+}
+
+-- the option that a word is
+abbrev pub named_option : List ℕ → Named
+named_option word =
+    if bytes_eq word (codes "--pump") then named.Pump
+    else if bytes_eq word (codes "--id") then named.Id
+    else if bytes_eq word (codes "--keep") then named.Keep
+    else if bytes_eq word (codes "--power") then named.Power
+    else named.Other
+
+-- with an option, each of which but `--keep` stands once
+unfoldable pub option_taken : Asking → Named → Option Asking
+option_taken a named.Pump = if a.pump then None else Some (with_pump a)
+option_taken a named.Id = if length a.id == 0 then Some (awaiting wait.Id a) else None
+option_taken a named.Keep = Some (awaiting wait.Kept a)
+option_taken a named.Power = if a.draws == 0 then Some (awaiting wait.Draws a) else None
+option_taken a named.Other = None
+
+-- with how many behaviours are drawn: from 1 to the limit
+unfoldable pub draws_taken : Asking → Option ℕ → Option Asking
+draws_taken a None = None
+draws_taken a (Some draws) = if draws == 0 then None else Some (with_draws a draws)
+
+-- with one word more, where it is one that may stand there
+unfoldable pub taken_as : Awaited → Asking → List ℕ → Option Asking
+taken_as wait.File a word = if is_file_name word then Some (with_file a word) else None
+taken_as wait.Option a word = option_taken a (named_option word)
+taken_as wait.Id a word = if length word == 0 then None else Some (with_id a word)
+taken_as wait.Kept a word = Some (with_kept a word)
+taken_as wait.Draws a word = draws_taken a (number_in MOST_DRAWS word)
+taken_as wait.Seed a word = option_map (with_seed a) (number_in (2 ^ 64 - 1) word)
+
+abbrev pub taken : Asking → List ℕ → Option Asking
+taken a word = taken_as a.awaited a word
+
+-- with all of these words
+abbrev pub all_taken : Asking → List (List ℕ) → Option Asking
+all_taken a [] = Some a
+all_taken a (word ∷ words) = option_and_then (λ next. all_taken next words) (taken a word)
+
+-- nothing is missing after these words
+abbrev pub is_whole : Awaited → Bool
+is_whole wait.File = false
+is_whole wait.Option = true
+is_whole wait.Id = false
+is_whole wait.Kept = false
+is_whole wait.Draws = false
+is_whole wait.Seed = false
+
+abbrev pub where_whole : Asking → Option Asking
+where_whole a = if is_whole a.awaited then Some a else None
+
+-- what words ask, of which the first is the program's name
+unfoldable pub asking_in : List (List ℕ) → Option Asking
+asking_in words = option_and_then where_whole (all_taken nothing_read (drop 1 words))
+
+-- the name of the column of ids
+abbrev pub id_name : Asking → List ℕ
+id_name a = if length a.id == 0 then codes "household" else a.id
+
+-- what is asked of each household beside the verdicts
+abbrev pub more_asked : Asking → Asked
+more_asked a = record {
+  pump = a.pump;
+  power = if a.draws == 0 then None else Some (record { draws = a.draws; seed = a.seed });
+}

@@ -1,0 +1,35 @@
+-- The line that refuses a long file, and what known bytes gain from a text that a sink may fail to take whole (this
+-- program's own texts).
+use Rattle.std.specs.Prelude.{ℕ, ◌⊎◌, List, [], ◌∷◌, ◌++◌, codes, Option}
+use Rattle.std.specs.Fmt.{decimal}
+use Rattle.std.specs.Option.{option_map_or}
+use Rattle.rp_outside.specs.Faults.{HasRisen}
+use Rattle.rp_outside.specs.Known.{Grows, GrowsByPrefix}
+use Rattle.rp_long.specs.declared.fault.LongFault.{LongFault}
+use Rattle.rp_long.specs.declared.fault.LongFault.TheVariants as long_fault
+use Rattle.rp_rows.specs.Faults.{column_of_fault, fault_word, row_of_fault}
+use Rattle.rp_rows.specs.declared.fault.Fault.{Fault}
+use Rattle.rp_rows.specs.declared.fault.Fault.TheVariants.{OfTable}
+
+-- a number after a word, where there is one
+abbrev pub place_text : List ℕ → Option ℕ → List ℕ
+place_text word number = option_map_or (λ n. word ++ decimal n) number []
+
+-- the word of a fault, and its record and its column
+abbrev pub told_fault : Fault → List ℕ
+told_fault f =
+    fault_word f ++ place_text (codes " record ") (row_of_fault f) ++ place_text (codes " column ") (column_of_fault f)
+
+-- the text of the fault of a file as a whole
+abbrev pub long_fault_text : LongFault → List ℕ
+long_fault_text (long_fault.Table f) = told_fault (OfTable f)
+long_fault_text long_fault.NoIdColumn = codes "NoIdColumn"
+long_fault_text (long_fault.NoKeptColumn number) = codes "NoKeptColumn name " ++ decimal number
+
+-- the line with a text about a file
+abbrev pub file_line : List ℕ → List ℕ → List ℕ
+file_line file text = codes "rp-panel: " ++ file ++ codes ": " ++ text ++ 10 ∷ []
+
+-- known bytes grow by all of the text, or by some of it from its front where the count of faults has risen
+abbrev pub Gains : Option (List ℕ) → Option (List ℕ) → ℕ → ℕ → List ℕ → Type 0
+Gains old new before after text = Grows old new text ⊎ (GrowsByPrefix old new text × HasRisen before after)

@@ -1,0 +1,13 @@
+//! The program of panels: its words, the long file that they name, and what is written and told.
+#![tactic(auto)]
+
+mod answer;
+mod number;
+mod question;
+mod running;
+mod status;
+mod telling;
+mod words;
+
+pub use running::run_panel;
+pub use status::Status;

@@ -1,0 +1,99 @@
+//! A call of the program: its words, the table of the long file that they name, and what is written and told.
+ghost use Rattle.std.specs.Prelude.{◌≡◌, ◌≢◌, ◌⊎◌, ℕ, List, None, Some, map, string_bytes};
+ghost use Rattle.rp_outside.specs.Faults.{EachStays, HasRisen};
+ghost use Rattle.rp_outside.specs.Known.{Grows, GrowsByPrefix, Stays};
+ghost use Rattle.rp_panel_run.specs.Endings.{IsRefusedKnown, IsTextOfKnown};
+ghost use Rattle.rp_panel_run.specs.Questions.{Asking, asking_in};
+ghost use Rattle.rp_panel_run.specs.Told.{Gains};
+
+use crate::Status;
+use crate::answer::{Cause, answer};
+use crate::telling::tell;
+use crate::words::read_words;
+use rp_outside::{Desk, Sink, pour};
+use std::alloc::Global;
+
+/// What is told where the words are none that the program takes.
+const USAGE: &[u8] =
+    b"usage: rp-panel LONG [--id NAME] [--keep NAME].. [--pump] [--power DRAWS SEED]\n";
+
+/// Answers the words of a command line over the files of a desk: a row for each household of the long file that they
+/// name. The table goes to `out`, and the reason why there is none to `err`, whose failures change no status.
+pub fn run_panel<D: Desk, O: Sink, E: Sink>(
+    alloc: Global,
+    words: &Vec<String>,
+    desk: &mut D,
+    out: &mut O,
+    err: &mut E,
+) -> Status
+    // The words.
+    ensures usage { result ≡ Status.Usage → asking_in (map string_bytes words.now.items) ≡ None }
+    ensures asked { result ≢ Status.Usage → result ≢ Status.NoMemory
+        → (a : Asking) × (asking_in (map string_bytes words.now.items) ≡ Some a) }
+
+    // The table.
+    ensures written { result ≡ Status.Done → (a : Asking) × (text : List ℕ)
+        × (asking_in (map string_bytes words.now.items) ≡ Some a)
+        × IsTextOfKnown a (D.bytes desk.old a.file) text
+        × Grows (O.written out.old) (O.written out.new) text }
+    ensures cut_short { result ≡ Status.WriteFault → (a : Asking) × (text : List ℕ)
+        × (asking_in (map string_bytes words.now.items) ≡ Some a)
+        × IsTextOfKnown a (D.bytes desk.old a.file) text
+        × GrowsByPrefix (O.written out.old) (O.written out.new) text
+        × HasRisen (O.faults out.old) (O.faults out.new) }
+    ensures silent { result ≢ Status.Done → result ≢ Status.WriteFault
+        → Stays (O.written out.old) (O.written out.new) }
+
+    // Why there is none.
+    ensures refused { result ≡ Status.Refused → (a : Asking) × (line : List ℕ)
+        × (asking_in (map string_bytes words.now.items) ≡ Some a)
+        × IsRefusedKnown a (D.bytes desk.old a.file) line
+        × Gains (E.written err.old) (E.written err.new) (E.faults err.old) (E.faults err.new) line }
+    ensures read_fault { result ≡ Status.ReadFault → (a : Asking)
+        × (asking_in (map string_bytes words.now.items) ≡ Some a)
+        × HasRisen (D.faults desk.old a.file) (D.faults desk.new a.file) }
+
+    // What stays.
+    ensures bytes_stay { EachStays (D.bytes desk.old) (D.bytes desk.new) }
+{
+    let Ok(asked) = read_words(alloc, words.as_slice()) else {
+        tell(err, b"rp-panel: out of memory\n");
+        return Status::NoMemory;
+    };
+    let Some(question) = asked else {
+        tell(err, USAGE);
+        return Status::Usage;
+    };
+    match answer(alloc, desk, &question) {
+        Ok(text) => finish(text.as_slice(), out, err),
+        Err(Cause::Read) => {
+            tell(err, b"rp-panel: read failed\n");
+            Status::ReadFault
+        }
+        Err(Cause::Refused(line)) => {
+            tell(err, line.as_slice());
+            Status::Refused
+        }
+        Err(Cause::NoMemory) => {
+            tell(err, b"rp-panel: out of memory\n");
+            Status::NoMemory
+        }
+    }
+}
+
+/// Writes the whole text, or tells that it could not be written.
+fn finish<O: Sink, E: Sink>(text: &[u8], out: &mut O, err: &mut E) -> Status
+    ensures either { (result ≡ Status.Done) ⊎ (result ≡ Status.WriteFault) }
+    ensures whole { result ≡ Status.Done → Grows (O.written out.old) (O.written out.new) text.now }
+    ensures part { result ≡ Status.WriteFault
+        → GrowsByPrefix (O.written out.old) (O.written out.new) text.now
+        × HasRisen (O.faults out.old) (O.faults out.new) }
+{
+    match pour(out, text) {
+        Ok(()) => Status::Done,
+        Err(_) => {
+            tell(err, b"rp-panel: write failed\n");
+            Status::WriteFault
+        }
+    }
+}
