@@ -21,9 +21,14 @@ fn verdict_on<T: HomotheticTest>(alloc: Global, file: &str) -> Result<Option<Ver
     let id = Seq::from_vec(Vec::new(alloc));
     let kept = Seq::from_vec(Vec::new(alloc));
     let row = verdict_row::<T>(alloc, asked, id, kept, &table)?;
-    match row.found {
-        Found::Verdicts(verdicts) => Ok(Some(verdicts.homothetic)),
-        Found::Fault(_) => Ok(None),
+    Ok(homothetic_of(row.found))
+}
+
+/// The verdict of the homothetic test that was found, if it was.
+fn homothetic_of(found: Found) -> Option<Verdict> {
+    match found {
+        Found::Verdicts(verdicts) => Some(verdicts.homothetic),
+        Found::Fault(_) => None,
     }
 }
 
