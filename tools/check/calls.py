@@ -151,7 +151,10 @@ class Native:
             with open(f"{self.room}/{name}", "wb") as it:
                 it.write(data)
         how = {"stdin": subprocess.DEVNULL, "stdout": subprocess.PIPE, "stderr": subprocess.PIPE}
-        done = subprocess.run([*self.words, *words], cwd=self.room, timeout=600, **how)
+        try:
+            done = subprocess.run([*self.words, *words], cwd=self.room, timeout=600, **how)
+        except subprocess.TimeoutExpired:
+            return None, b"", b"no answer within ten minutes"
         return done.returncode, done.stdout, done.stderr
 
 

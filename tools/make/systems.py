@@ -12,7 +12,7 @@ import re
 import shutil
 from concurrent.futures import ThreadPoolExecutor
 
-from shared import TOP, Stopped, kit, loaded, ran, version
+from shared import TOP, Stopped, bytes_of, kit, loaded, ran, version
 
 SOURCES = f"{TOP}/systems"
 CRATE = f"{TOP}/crates/rp_c"
@@ -107,18 +107,32 @@ def toolchain(room):
     return folder, kept
 
 
+def crates_of_library():
+    """Returns the lines of crates.txt of the library's crate and of those that it stands on, by their names."""
+    with open(f"{TOP}/crates.txt", encoding="utf-8") as it:
+        lines = [line.partition("#")[0].strip() for line in it]
+    by_name = {line.partition(":")[0].split()[0]: line for line in lines if ":" in line}
+    found, left = {}, [os.path.basename(CRATE)]
+    while left:
+        name = left.pop()
+        if name in by_name and name not in found:
+            found[name] = by_name[name]
+            left += by_name[name].partition(":")[2].split()
+    return found
+
+
 def sources_sum():
-    """Returns a checksum of all that a build of the library reads: the crates, their list, and the kit."""
-    found = hashlib.sha256()
-    for at, folders, names in os.walk(f"{TOP}/crates"):
-        folders[:] = sorted(it for it in folders if it not in ("out", "must-fail", "data"))
-        for name in sorted(it for it in names if it.endswith((".rt", ".antt"))):
-            with open(f"{at}/{name}", "rb") as it:
-                found.update(f"{os.path.relpath(at, TOP)}/{name}\0".encode() + it.read() + b"\0")
-    for file in (f"{TOP}/crates.txt", f"{kit()}/KIT-ID", os.path.realpath(__file__)):
+    """Returns a checksum of all that a build of the library reads: its crates, their lines in crates.txt, and the kit."""
+    found, crates = hashlib.sha256(), crates_of_library()
+    for crate in sorted(crates):
+        found.update(f"{crates[crate]}\n".encode())
+        for at, folders, names in os.walk(f"{TOP}/crates/{crate}"):
+            folders[:] = sorted(it for it in folders if it not in ("out", "must-fail", "data"))
+            for name in sorted(it for it in names if it.endswith((".rt", ".antt"))):
+                found.update(f"{os.path.relpath(at, TOP)}/{name}\0".encode() + bytes_of(f"{at}/{name}") + b"\0")
+    for file in (f"{kit()}/KIT-ID", os.path.realpath(__file__)):
         if os.path.exists(file):
-            with open(file, "rb") as it:
-                found.update(it.read())
+            found.update(bytes_of(file))
     return found.hexdigest()
 
 
