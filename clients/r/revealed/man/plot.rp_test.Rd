@@ -7,7 +7,8 @@ Draws the budget lines of a table of two goods, what was chosen on each, and the
 the index over the households of a panel, beside that of random behaviour.
 }
 \usage{
-\method{plot}{rp_test}(x, labels = NULL, main = NULL, xlab = NULL, ylab = NULL, legend = TRUE, ...)
+\method{plot}{rp_test}(x, labels = NULL, main = NULL, xlab = NULL, ylab = NULL,
+  legend = TRUE, ...)
 \method{plot}{rp_panel}(x, random = NULL, type = c("histogram", "cumulative"),
   breaks = seq(0, 1, 0.05), main = NULL, xlab = NULL, ylab = NULL,
   names = c("households", "random behaviour"), ...)

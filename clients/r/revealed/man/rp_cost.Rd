@@ -11,7 +11,8 @@ what an output costs at new prices.
 }
 \usage{
 rp_cost(technology, new, digits = NULL, numbers = "exact", exe = NULL, wide = TRUE)
-rp_cost_minimisation(technology, new, digits = NULL, numbers = "exact", exe = NULL, wide = TRUE)
+rp_cost_minimisation(technology, new, digits = NULL, numbers = "exact", exe = NULL,
+  wide = TRUE)
 }
 \arguments{
 \item{technology}{a data frame with \code{w_NAME}, the price, and \code{x_NAME}, how much was used, for each input, \code{y}, the output, and

@@ -10,7 +10,8 @@ Gives for each row of new prices and each observation bounds on what it costs at
 }
 \usage{
 rp_welfare(p, q = NULL, new, digits = NULL, numbers = "exact", exe = NULL, wide = TRUE)
-rp_welfare_bounds(p, q = NULL, new, digits = NULL, numbers = "exact", exe = NULL, wide = TRUE)
+rp_welfare_bounds(p, q = NULL, new, digits = NULL, numbers = "exact", exe = NULL,
+  wide = TRUE)
 }
 \arguments{
 \item{p, q, digits, numbers, exe, wide}{as for \code{\link{rp_test}}.}
