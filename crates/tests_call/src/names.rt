@@ -34,8 +34,8 @@ const ROWS: &[Row<'static>] = &[
     },
     Row {
         words: b"pairs\0\0",
-        number: 0,
-        names: "\0",
+        number: 2,
+        names: "",
     },
     Row {
         words: b"trial\x001\x002\x003\0",
