@@ -1,4 +1,4 @@
-//! The reader of asked outputs.
+//! Files that are asked outputs, and their reader.
 ghost use Rattle.std.specs.Prelude.{◌≡◌, Ok, IfOk};
 ghost use Rattle.rp_table.specs.Tables.{goods_of};
 ghost use Rattle.rp_sheet.specs.Refusals.{RefusedAs};
@@ -21,14 +21,12 @@ pub fn read_asked(alloc: Global, bytes: &[u8], tech: &Tech) -> Result<Asked, Tab
     ensures refused { RefusedAs result (asked_beside tech.now bytes.now) }
     ensures inputs { IfOk result (λ asked. asked.prices.goods ≡ goods_of tech.now.table) }
 {
-    read_file(alloc, bytes, &AskedFile { tech })
+    read_file(alloc, bytes, &AskedFile(tech))
 }
 
-/// What is asked of a technology.
+/// The kind of files that are outputs asked of a technology.
 #[derive(Drop)]
-struct AskedFile<'t> {
-    tech: &'t Tech,
-}
+pub struct AskedFile<'t>(pub &'t Tech);
 
 impl FileKind for AskedFile<'_> {
     ghost use Rattle.std.specs.Prelude.{◌≡◌};
@@ -38,26 +36,26 @@ impl FileKind for AskedFile<'_> {
 
     type Value = Asked;
 
-    ghost form = { λ kind. asked_form kind.tech.now.table.quantity_places };
+    ghost form = { λ kind. asked_form kind.0.now.table.quantity_places };
 
-    ghost goods = { λ kind. kind.tech.now.table.names };
+    ghost goods = { λ kind. kind.0.now.table.names };
 
-    ghost value = { λ kind. asked_of kind.tech.now.table.quantity_places
-        kind.tech.now.table.names };
+    ghost value = { λ kind. asked_of kind.0.now.table.quantity_places
+        kind.0.now.table.names };
 
-    ghost fits = { λ kind asked. asked.prices.goods ≡ goods_of kind.tech.now.table };
+    ghost fits = { λ kind asked. asked.prices.goods ≡ goods_of kind.0.now.table };
 
     fn form(&self) -> Form {
-        Form::asked(self.tech.quantity_places())
+        Form::asked(self.0.quantity_places())
     }
 
     fn goods(&self) -> &[Name] {
-        self.tech.names()
+        self.0.names()
     }
 
     fn make(&self, alloc: Global, sheet: &Sheet<'_>) -> Result<Asked, NoMemory> {
-        let inputs = self.tech.inputs();
-        let names = self.tech.names();
+        let inputs = self.0.inputs();
+        let names = self.0.names();
         let sizes = sheet.sizes.as_slice();
         let prices = numbers_under(alloc, &sheet.columns, b"w_", names, sizes)?;
         let outputs = outputs(alloc, &sheet.columns, sizes)?;

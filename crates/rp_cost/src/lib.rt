@@ -16,12 +16,12 @@ mod tech_file;
 mod upper;
 
 pub use asked::Asked;
-pub use asked_file::read_asked;
+pub use asked_file::{AskedFile, read_asked};
 pub use axioms::{Axiom, cost_axiom, profit_axiom};
 pub use bounds::{CostBounds, cost_bounds};
 pub use check::check_cost;
 pub use report::report_cost;
 pub use rp_sheet::TableFault;
 pub use tech::Tech;
-pub use tech_file::read_tech;
+pub use tech_file::{TechFile, read_tech};
 pub use upper::Upper;

@@ -1,4 +1,4 @@
-//! The reader of technologies.
+//! Files that are technologies, and their reader.
 ghost use Rattle.std.specs.Prelude.{◌≡◌, Ok, IfOk, All, codes};
 ghost use Rattle.rp_sheet.specs.Refusals.{RefusedAs};
 ghost use Rattle.rp_sheet.specs.Sheets as Sheets;
@@ -27,8 +27,8 @@ pub fn read_tech(alloc: Global, bytes: &[u8]) -> Result<Tech, TableFault>
     read_file(alloc, bytes, &TechFile)
 }
 
-/// A technology.
-struct TechFile;
+/// The kind of files that are technologies.
+pub struct TechFile;
 
 impl FileKind for TechFile {
     ghost use Rattle.std.specs.Prelude.{⊤, []};

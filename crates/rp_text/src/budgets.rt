@@ -1,4 +1,4 @@
-//! The reader of budgets.
+//! Files that are budgets, and their reader.
 ghost use Rattle.std.specs.Prelude.{◌≡◌, Ok, IfOk};
 ghost use Rattle.rp_text.specs.Denotation.{budgets_in};
 ghost use Rattle.rp_sheet.specs.Refusals.{RefusedAs};
@@ -19,8 +19,8 @@ pub fn read_budgets(alloc: Global, bytes: &[u8]) -> Result<Budgets, TableFault>
     read_file(alloc, bytes, &BudgetsFile)
 }
 
-/// Budgets.
-struct BudgetsFile;
+/// The kind of files that are budgets.
+pub struct BudgetsFile;
 
 impl FileKind for BudgetsFile {
     ghost use Rattle.std.specs.Prelude.{⊤, []};

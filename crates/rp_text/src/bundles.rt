@@ -1,4 +1,4 @@
-//! The reader of bundles.
+//! Files that are bundles, and their reader.
 ghost use Rattle.std.specs.Prelude.{◌≡◌, ◌≤◌, Ok, IfOk};
 ghost use Rattle.rp_table.specs.Rows.{rows_count};
 ghost use Rattle.rp_table.specs.Tables.{goods_of};
@@ -21,14 +21,12 @@ pub fn read_bundles(alloc: Global, bytes: &[u8], table: &Table) -> Result<Bundle
     ensures some_records { IfOk result
         (λ bundles. 1 ≤ rows_count bundles.quantities bundles.goods) }
 {
-    read_file(alloc, bytes, &BundlesFile { table })
+    read_file(alloc, bytes, &BundlesFile(table))
 }
 
-/// Bundles beside a table.
+/// The kind of files that are bundles beside a table.
 #[derive(Drop)]
-struct BundlesFile<'t> {
-    table: &'t Table,
-}
+pub struct BundlesFile<'t>(pub &'t Table);
 
 impl FileKind for BundlesFile<'_> {
     ghost use Rattle.std.specs.Prelude.{◌≡◌, ◌≤◌};
@@ -39,26 +37,26 @@ impl FileKind for BundlesFile<'_> {
 
     type Value = Bundles;
 
-    ghost form = { λ kind. bundles_form kind.table.now.quantity_places };
+    ghost form = { λ kind. bundles_form kind.0.now.quantity_places };
 
-    ghost goods = { λ kind. kind.table.now.names };
+    ghost goods = { λ kind. kind.0.now.names };
 
-    ghost value = { λ kind. bundles_of kind.table.now.quantity_places kind.table.now.names };
+    ghost value = { λ kind. bundles_of kind.0.now.quantity_places kind.0.now.names };
 
-    ghost fits = { λ kind bundles. (bundles.goods ≡ goods_of kind.table.now)
+    ghost fits = { λ kind bundles. (bundles.goods ≡ goods_of kind.0.now)
         × (1 ≤ rows_count bundles.quantities bundles.goods) };
 
     fn form(&self) -> Form {
-        Form::bundles(self.table.quantity_places())
+        Form::bundles(self.0.quantity_places())
     }
 
     fn goods(&self) -> &[Name] {
-        self.table.names()
+        self.0.names()
     }
 
     fn make(&self, alloc: Global, sheet: &Sheet<'_>) -> Result<Bundles, NoMemory> {
-        let goods = self.table.goods();
-        let names = self.table.names();
+        let goods = self.0.goods();
+        let names = self.0.names();
         let sizes = sheet.sizes.as_slice();
         let quantities = numbers_under(alloc, &sheet.columns, b"q_", names, sizes)?;
         Ok(Bundles::make(goods, quantities))

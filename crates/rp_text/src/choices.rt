@@ -1,4 +1,4 @@
-//! The reader of choices from budgets.
+//! Files that are choices from budgets, and their reader.
 ghost use Rattle.std.specs.Prelude.{◌≡◌, ℕ, ◌-◌, ◌<◌, ◌≤◌, Ok, IfOk, All, map, length};
 ghost use Rattle.rp_sheet.specs.Chosen.{IsChosenFrom};
 ghost use Rattle.rp_text.specs.Denotation.{choices_on};
@@ -24,14 +24,12 @@ pub fn read_choices(alloc: Global, bytes: &[u8], budgets: &Budgets) -> Result<Ch
     ensures every_budget { IfOk result
         (λ choices. (j : ℕ) → j < length budgets.now.w → IsChosenFrom choices j) }
 {
-    read_file(alloc, bytes, &ChoicesFile { budgets })
+    read_file(alloc, bytes, &ChoicesFile(budgets))
 }
 
-/// Choices on some budgets.
+/// The kind of files that are choices from some budgets.
 #[derive(Drop)]
-struct ChoicesFile<'b> {
-    budgets: &'b Budgets,
-}
+pub struct ChoicesFile<'b>(pub &'b Budgets);
 
 impl FileKind for ChoicesFile<'_> {
     ghost use Rattle.std.specs.Prelude.{◌≡◌, ◌<◌, ◌≤◌, ℕ, All, length};
@@ -41,28 +39,28 @@ impl FileKind for ChoicesFile<'_> {
 
     type Value = Choices;
 
-    ghost form = { λ kind. choices_form (length kind.budgets.now.w) };
+    ghost form = { λ kind. choices_form (length kind.0.now.w) };
 
-    ghost goods = { λ kind. kind.budgets.now.names };
+    ghost goods = { λ kind. kind.0.now.names };
 
-    ghost value = { λ kind. choices_of (length kind.budgets.now.w) kind.budgets.now.names };
+    ghost value = { λ kind. choices_of (length kind.0.now.w) kind.0.now.names };
 
-    ghost fits = { λ kind choices. (choices.goods ≡ length kind.budgets.now.names)
+    ghost fits = { λ kind choices. (choices.goods ≡ length kind.0.now.names)
         × (1 ≤ length choices.budget)
-        × All (λ j. j < length kind.budgets.now.w) choices.budget
-        × ((j : ℕ) → j < length kind.budgets.now.w → IsChosenFrom choices j) };
+        × All (λ j. j < length kind.0.now.w) choices.budget
+        × ((j : ℕ) → j < length kind.0.now.w → IsChosenFrom choices j) };
 
     fn form(&self) -> Form {
-        Form::choices(self.budgets.count())
+        Form::choices(self.0.count())
     }
 
     fn goods(&self) -> &[Name] {
-        self.budgets.names()
+        self.0.names()
     }
 
     fn make(&self, alloc: Global, sheet: &Sheet<'_>) -> Result<Choices, NoMemory> {
-        let goods = self.budgets.goods();
-        let names = self.budgets.names();
+        let goods = self.0.goods();
+        let names = self.0.names();
         let columns = &sheet.columns;
         let sizes = sheet.sizes.as_slice();
         let numbers = column_numbers(alloc, columns, b"budget", sizes)?;

@@ -9,11 +9,11 @@ mod priced;
 mod prices;
 mod tables;
 
-pub use budgets::read_budgets;
-pub use bundles::read_bundles;
-pub use choices::read_choices;
+pub use budgets::{BudgetsFile, read_budgets};
+pub use bundles::{BundlesFile, read_bundles};
+pub use choices::{ChoicesFile, read_choices};
 pub use plain::plain_tables;
 pub use priced::priced_table;
-pub use prices::read_prices;
+pub use prices::{PricesFile, read_prices};
 pub use rp_sheet::TableFault;
-pub use tables::{read_table, read_table_of};
+pub use tables::{TableFile, read_table, read_table_of};

@@ -1,4 +1,4 @@
-//! The reader of new prices.
+//! Files that are new prices, and their reader.
 ghost use Rattle.std.specs.Prelude.{◌≡◌, ◌≤◌, [], Ok, IfOk, IsTrue, length, codes, if◌then◌else◌};
 ghost use Rattle.rp_table.specs.Rows.{rows_count};
 ghost use Rattle.rp_table.specs.Tables.{goods_of};
@@ -31,11 +31,11 @@ pub fn read_prices(
     read_file(alloc, bytes, &PricesFile { table, with_m })
 }
 
-/// New prices beside a table, with expenditures or without.
+/// The kind of files that are new prices beside a table, with expenditures or without.
 #[derive(Drop)]
-struct PricesFile<'t> {
-    table: &'t Table,
-    with_m: bool,
+pub struct PricesFile<'t> {
+    pub table: &'t Table,
+    pub with_m: bool,
 }
 
 impl FileKind for PricesFile<'_> {

@@ -1,4 +1,4 @@
-//! The reader of tables.
+//! Files that are tables, and their reader.
 ghost use Rattle.std.specs.Prelude.{◌≡◌, ◌≤◌, [], Ok, None, IfOk, IfSome, All, length};
 ghost use Rattle.rp_table.specs.Tables.{levels_given};
 ghost use Rattle.rp_limits.specs.declared.table.TheConstants.{LARGEST};
@@ -36,8 +36,8 @@ pub fn read_table_of(alloc: Global, records: &Records) -> Result<Table, TableFau
     read_kind(alloc, records, &TableFile)
 }
 
-/// A table.
-struct TableFile;
+/// The kind of files that are tables.
+pub struct TableFile;
 
 impl FileKind for TableFile {
     ghost use Rattle.std.specs.Prelude.{⊤, []};
