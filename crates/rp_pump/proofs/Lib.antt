@@ -5,3 +5,4 @@ pub mod Totals
 pub mod Values
 pub mod Rounds
 pub mod Outcomes
+pub mod SamePumps

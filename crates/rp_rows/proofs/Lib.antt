@@ -1,3 +1,2 @@
 mod VerdictLemmas
-mod PumpSame
 mod TextLemmas

@@ -2,7 +2,7 @@ use Rattle.std.proofs.Common.{◌∙◌, refl}
 use Rattle.rp_pump.specs.MoneyPump.{IsPumpIndex}
 use Rattle.rp_table.specs.Cost.{cost_at, cost_of}
 use Rattle.rp_table.specs.Tables.{records_of}
-use Rattle.rp_rows.proofs.PumpSame.{index_same}
+use Rattle.rp_pump.proofs.SamePumps.{index_same}
 use Rattle.rp_rows.proofs.VerdictLemmas.{same_costs}
 use Rattle.rp_rows.proofs.verdicts.pump_on.Goals as goal
 
