@@ -9,9 +9,8 @@ use Rattle.rp_types.proofs.Determined.{types_once}
 use Rattle.rp_run.proofs.OneAnswer.{denotes_one}
 use Rattle.rp_run.proofs.RunLemmas.{not_both}
 use Rattle.rp_run.specs.Answers.{IsAccepted, IsRefused, RefusesWith}
-use Rattle.rp_run.specs.Contents.{Denotes}
+use Rattle.rp_run.specs.Contents.{Contents, Denotes}
 use Rattle.rp_run.specs.Endings.{IsEnd}
-use Rattle.rp_run.specs.declared.contents.Contents.{Contents}
 use Rattle.rp_frame.specs.Frames.{Frame, Request, request_in}
 use Rattle.rp_frame.specs.Handed.{IsText}
 use Rattle.rp_call.specs.CallEndings.{AreGiven, Asks, HasTooMany, IsDecided, IsEndingOf, IsFirstMissing, IsRunOf, IsStatusOf, Requests, asked_of, given_files}

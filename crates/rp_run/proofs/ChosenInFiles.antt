@@ -17,11 +17,10 @@ use Rattle.rp_command_line.specs.declared.commands.FileSet.TheVariants as files
 use Rattle.rp_run.specs.Answers.{AreOfTheFiles}
 use Rattle.rp_run.specs.ChoiceContents.{BudgetsIn, ChoicesIn, TypedPatchesOf}
 use Rattle.rp_run.specs.ChosenInFiles.{AreOfChoicesIn}
-use Rattle.rp_run.specs.Contents.{ContentsIn, Denotes}
+use Rattle.rp_run.specs.Contents.{Contents, ContentsIn, Denotes}
+use Rattle.rp_run.specs.Contents as contents
 use Rattle.rp_run.specs.FaultTexts.{fault_text}
 use Rattle.rp_run.specs.Readings.{NumbersIn, WhereKnown, or_line}
-use Rattle.rp_run.specs.declared.contents.Contents.{Contents}
-use Rattle.rp_run.specs.declared.contents.Contents.TheVariants as contents
 
 -- a value that was read from a file of numbers is what its bytes denote
 value_there : {A : Type 0} (long : Bool) (line name : List ℕ) (r : Result A TableFault) (x : A) → (if long then Err line else or_line fault_text name r) ≡ Ok x → r ≡ Ok x

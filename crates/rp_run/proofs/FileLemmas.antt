@@ -12,9 +12,8 @@ use Rattle.rp_command_line.specs.CommandLine.{Line, files_of}
 use Rattle.rp_outside.specs.Known.{AreAll}
 use Rattle.rp_run.specs.Answers.{Files, AreContents, HasContents}
 use Rattle.rp_run.proofs.ChosenInFiles.{of_the_files}
-use Rattle.rp_run.specs.Contents.{Denotes}
-use Rattle.rp_run.specs.InnerContents.{MayHaveLevels}
-use Rattle.rp_run.specs.declared.contents.Contents.{Contents}
+use Rattle.rp_run.specs.Contents.{Contents, Denotes}
+use Rattle.rp_run.specs.InnerLoadings.{MayHaveLevels}
 use Rattle.rp_run.specs.Readings.{AndThen, CertificateIn, Just, NumbersIn, Reading, TakenTable, all_bytes, and_unless_levelled, refuses_levels, unless_levelled}
 use Rattle.rp_limits.specs.declared.run.TheConstants.{MOST_BYTES, MOST_CERTIFICATE_BYTES}
 use Rattle.rp_run.specs.FaultLines.{file_line}

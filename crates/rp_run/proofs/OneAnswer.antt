@@ -24,13 +24,12 @@ use Rattle.rp_types.specs.declared.types.Rational.{Rational}
 use Rattle.rp_command_line.specs.CommandLine.{Arguments, Line, file, file_set, takes_levels}
 use Rattle.rp_command_line.specs.declared.commands.FileSet.{FileSet}
 use Rattle.rp_command_line.specs.declared.commands.FileSet.TheVariants as files
-use Rattle.rp_run.specs.declared.contents.Contents.{Contents}
-use Rattle.rp_run.specs.declared.contents.Contents.TheVariants as contents
 use Rattle.rp_run.specs.ChoiceContents.{PatchesOf, TypedPatchesOf, TypesOf}
 use Rattle.rp_menu.specs.Denotation.{menus_in}
 use Rattle.rp_run.specs.MenuContents.{MenusIn, MenusOf, UnitsOf, menu_fault_text}
 use Rattle.rp_run.proofs.MenusOnce.{units_one}
-use Rattle.rp_run.specs.Contents.{ContentsIn, Denotes}
+use Rattle.rp_run.specs.Contents.{Contents, ContentsIn, Denotes}
+use Rattle.rp_run.specs.Contents as contents
 use Rattle.rp_run.specs.Readings.{AndThen, CertificateIn, Just, Reading, held_in, numbers_in, taken_table}
 
 -- one value is read or one line, at most

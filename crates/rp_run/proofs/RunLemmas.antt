@@ -6,12 +6,11 @@ use Rattle.rp_command_line.specs.CommandLine.{Line, file_at, files_of}
 use Rattle.rp_command_line.specs.CommandLine.{Arguments}
 use Rattle.rp_command_line.specs.declared.commands.Command.{Command}
 use Rattle.rp_command_line.specs.declared.commands.Command.TheVariants.{Check, CheckRandom}
-use Rattle.rp_run.specs.declared.contents.Contents.{Contents}
-use Rattle.rp_run.specs.declared.contents.Contents.TheVariants as contents
 use Rattle.rp_patch.proofs.Determined.{same_list}
 use Rattle.rp_types.proofs.Determined.{types_once}
 use Rattle.rp_run.proofs.OneAnswer.{denotes_one}
-use Rattle.rp_run.specs.Contents.{Denotes}
+use Rattle.rp_run.specs.Contents.{Contents, Denotes}
+use Rattle.rp_run.specs.Contents as contents
 use Rattle.rp_agreement.proofs.OneFinding.{only_accepted}
 use Rattle.rp_check.specs.CheckVerdict.{IsCheckVerdict}
 use Rattle.rp_check.specs.RandomCheckVerdict.{IsRandomCheckVerdict}

@@ -9,9 +9,8 @@ use Rattle.rp_text.specs.Denotation.{bundles_beside, prices_beside}
 use Rattle.rp_command_line.specs.CommandLine.{Arguments, Line, file, file_set, takes_levels}
 use Rattle.rp_command_line.specs.declared.commands.FileSet.{FileSet}
 use Rattle.rp_command_line.specs.declared.commands.FileSet.TheVariants as files
-use Rattle.rp_run.specs.declared.contents.Contents.{Contents}
-use Rattle.rp_run.specs.declared.contents.Contents.TheVariants as contents
-use Rattle.rp_run.specs.Contents.{ContentsIn, Denotes, HasNumbersAlone}
+use Rattle.rp_run.specs.Contents.{Contents, ContentsIn, Denotes, HasNumbersAlone}
+use Rattle.rp_run.specs.Contents as contents
 use Rattle.rp_run.specs.Readings.{AndThen, CertificateIn, Just, Reading, numbers_in, taken_table}
 use Rattle.rp_run.proofs.SomeCertificate.{certificate_some}
 

@@ -5,10 +5,9 @@ use Rattle.rp_outside.specs.Reads.{calls_through}
 use Rattle.rp_command_line.specs.CommandLine.{Arguments, Line, file_set, files_of, takes_levels}
 use Rattle.rp_command_line.specs.declared.commands.FileSet.{FileSet}
 use Rattle.rp_command_line.specs.declared.commands.FileSet.TheVariants.{Nothing}
-use Rattle.rp_run.specs.declared.contents.Contents.{Contents}
 use Rattle.rp_run.specs.Answers.{Files}
 use Rattle.rp_run.specs.InnerCauses.{HoldsValue}
-use Rattle.rp_run.specs.Contents.{ContentsIn}
+use Rattle.rp_run.specs.Contents.{Contents, ContentsIn}
 use Rattle.rp_run.specs.Readings.{AndThen, Just, Reading, WhereKnown}
 use Rattle.rp_run.specs.Turns.{AreReadInTurn, AreRefused, AsksForFirst, calls_of_files, first_known}
 

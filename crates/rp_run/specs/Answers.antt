@@ -28,10 +28,9 @@ use Rattle.rp_command_line.specs.declared.commands.Command.{Command}
 use Rattle.rp_command_line.specs.declared.commands.Command.TheVariants.{Pairs, Analyse, Certify, Check, Demand, Welfare}
 use Rattle.rp_command_line.specs.declared.commands.Command.TheVariants.{Utility, Patches}
 use Rattle.rp_command_line.specs.declared.commands.Command.TheVariants.{Random, CheckRandom, Trial, Menus, Pump, Cost, Power}
-use Rattle.rp_run.specs.declared.contents.Contents.{Contents}
-use Rattle.rp_run.specs.declared.contents.Contents.TheVariants as contents
 use Rattle.rp_run.specs.ChosenInFiles.{AreOfChoicesIn}
-use Rattle.rp_run.specs.Contents.{Denotes}
+use Rattle.rp_run.specs.Contents.{Contents, Denotes}
+use Rattle.rp_run.specs.Contents as contents
 use Rattle.rp_answers.specs.declared.status.Status.{Status}
 use Rattle.rp_answers.specs.declared.status.Status.TheVariants as status
 

@@ -1,56 +1,78 @@
--- What the files of a line denote: the contents of its set of files, or the first refusal, which is a whole line for
--- standard error (this program's own order and texts). Nothing is both.
+-- What the files of a line hold, and what they denote: the contents of its set of files, or the first refusal, which is
+-- a whole line for standard error (this program's own order and texts). Nothing is both.
 use Rattle.std.specs.Prelude.{ℕ, ⊤, Bool, true, false, Option, Some, List, Ok}
+use Rattle.rp_table.specs.BundleLists.{BundleList}
+use Rattle.rp_table.specs.PriceLists.{PriceList}
+use Rattle.rp_table.specs.Tables.{Observations}
 use Rattle.rp_text.specs.Denotation.{bundles_beside, prices_beside}
+use Rattle.rp_cost.specs.AskedOutputs.{AskedOutputs}
 use Rattle.rp_cost.specs.Denotation.{asked_beside, tech_in}
+use Rattle.rp_cost.specs.Technology.{Technology}
+use Rattle.rp_evidence.specs.declared.certificate.Certificate.{Certificate}
 use Rattle.rp_evidence.specs.declared.certificate.Kind.TheVariants.{Table as TableKind, Random as RandomKind}
 use Rattle.rp_command_line.specs.CommandLine.{Arguments, Line, file_set, takes_levels}
 use Rattle.rp_command_line.specs.declared.commands.FileSet.{FileSet}
 use Rattle.rp_command_line.specs.declared.commands.FileSet.TheVariants as files
-use Rattle.rp_run.specs.declared.contents.Contents.{Contents}
-use Rattle.rp_run.specs.declared.contents.Contents.TheVariants as contents
+use Rattle.rp_menu.specs.MenuLists.{MenuList}
+use Rattle.rp_patch.specs.Patches.{PatchList}
+use Rattle.rp_patch.specs.declared.apportionment.Units.{Units}
+use Rattle.rp_types.specs.declared.types.Rational.{Rational}
 use Rattle.rp_run.specs.ChoiceContents.{BudgetsIn, ChoicesIn, TypedPatchesOf}
 use Rattle.rp_run.specs.MenuContents.{MenusIn}
 use Rattle.rp_run.specs.Readings.{AndThen, CertificateIn, FileIn, Just, NumbersIn, Reading, TableIn}
 
+-- what the files of a line hold, by the set of files of its command: of choices from budgets their patches and rational
+-- types, and of menus the units of their cells too
+pub data Contents : Type 0 where
+  Nothing : Contents
+  Table : (table : Observations) → Contents
+  TableAndCertificate : (table : Observations) (certificate : Certificate) → Contents
+  TableAndPricesWithExpenditure : (table : Observations) (new : PriceList) → Contents
+  TableAndPrices : (table : Observations) (new : PriceList) → Contents
+  TableAndBundles : (table : Observations) (bundles : BundleList) → Contents
+  Choices : (patches : PatchList) (types : List Rational) → Contents
+  ChoicesAndCertificate : (patches : PatchList) (types : List Rational) (certificate : Certificate) → Contents
+  Menus : (list : MenuList) (units : Units) → Contents
+  TechnologyAndAsked : (tech : Technology) (asked : AskedOutputs) → Contents
+
 -- the contents of a set of files, or the first refusal, from the bytes of the k-th file for each k from 0, as far as
 -- they are known. Where a file is not, nothing is denoted but what is refused before it
 abbrev pub ContentsIn : Bool → FileSet → Arguments → (ℕ → Option (List ℕ)) → Reading Contents
-ContentsIn takes files.Nothing arguments known = Just (Ok contents.Nothing)
+ContentsIn takes files.Nothing arguments known = Just (Ok Nothing)
 ContentsIn takes files.Table arguments known =
-    AndThen (TableIn takes arguments known) (λ t. Just (Ok (contents.Table t)))
+    AndThen (TableIn takes arguments known) (λ t. Just (Ok (Table t)))
 ContentsIn takes files.TableAndCertificate arguments known =
     AndThen (TableIn takes arguments known) (λ t.
     AndThen (FileIn arguments known 1 (λ name. CertificateIn name TableKind))
-    (λ c. Just (Ok (contents.TableAndCertificate t c))))
+    (λ c. Just (Ok (TableAndCertificate t c))))
 ContentsIn takes files.TableAndPricesWithExpenditure arguments known =
     AndThen (TableIn takes arguments known) (λ t.
     AndThen (FileIn arguments known 1 (λ name. NumbersIn name (prices_beside true t)))
-    (λ new. Just (Ok (contents.TableAndPricesWithExpenditure t new))))
+    (λ new. Just (Ok (TableAndPricesWithExpenditure t new))))
 ContentsIn takes files.TableAndPrices arguments known =
     AndThen (TableIn takes arguments known) (λ t.
     AndThen (FileIn arguments known 1 (λ name. NumbersIn name (prices_beside false t)))
-    (λ new. Just (Ok (contents.TableAndPrices t new))))
+    (λ new. Just (Ok (TableAndPrices t new))))
 ContentsIn takes files.TableAndBundles arguments known =
     AndThen (TableIn takes arguments known) (λ t.
     AndThen (FileIn arguments known 1 (λ name. NumbersIn name (bundles_beside t)))
-    (λ b. Just (Ok (contents.TableAndBundles t b))))
+    (λ b. Just (Ok (TableAndBundles t b))))
 ContentsIn takes files.Choices arguments known =
     AndThen (BudgetsIn arguments known) (λ b.
     AndThen (ChoicesIn b arguments known) (λ c.
-    AndThen (TypedPatchesOf b c arguments.per) (λ made. Just (Ok (contents.Choices made.0 made.1)))))
+    AndThen (TypedPatchesOf b c arguments.per) (λ made. Just (Ok (Choices made.0 made.1)))))
 ContentsIn takes files.ChoicesAndCertificate arguments known =
     AndThen (BudgetsIn arguments known) (λ b.
     AndThen (ChoicesIn b arguments known) (λ c.
     AndThen (FileIn arguments known 2 (λ name. CertificateIn name RandomKind)) (λ certificate.
     AndThen (TypedPatchesOf b c arguments.per)
-    (λ made. Just (Ok (contents.ChoicesAndCertificate made.0 made.1 certificate))))))
+    (λ made. Just (Ok (ChoicesAndCertificate made.0 made.1 certificate))))))
 ContentsIn takes files.Menus arguments known =
-    AndThen (FileIn arguments known 0 (MenusIn arguments.per)) (λ made. Just (Ok (contents.Menus made.0 made.1)))
+    AndThen (FileIn arguments known 0 (MenusIn arguments.per)) (λ made. Just (Ok (Menus made.0 made.1)))
 ContentsIn takes files.TechnologyAndAsked arguments known =
     AndThen (FileIn arguments known 0 (λ name. NumbersIn name tech_in)) (λ tech.
     AndThen (FileIn arguments known 1 (λ name. NumbersIn name (asked_beside tech)))
-    (λ asked. Just (Ok (contents.TechnologyAndAsked tech asked))))
+    (λ asked. Just (Ok (TechnologyAndAsked tech asked))))
 
 -- files that hold numbers alone: tables, new prices, bundles and technologies
 abbrev pub HasNumbersAlone : FileSet → Type 0

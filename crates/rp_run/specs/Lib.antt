@@ -14,4 +14,3 @@ pub mod Gains
 pub mod InnerCauses
 pub mod InnerLoadings
 pub mod Calls
-pub mod InnerContents

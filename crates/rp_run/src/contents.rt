@@ -1,5 +1,6 @@
-//! What the files of a line hold.
-ghost use Rattle.std.specs.Prelude.{◌≡◌, true, false, List, []};
+//! What the files of a line hold, for each set of files. They are read in the order of the words, each whole before the
+//! next.
+ghost use Rattle.std.specs.Prelude.{◌≡◌, IfOk};
 ghost use Rattle.rp_answers.specs.DemandText.{IsSpentOn};
 ghost use Rattle.rp_answers.specs.Typed.{AreTyped, typed};
 ghost use Rattle.rp_evidence.specs.Kinds.{IsCertificateOf};
@@ -7,14 +8,13 @@ ghost use Rattle.rp_evidence.specs.declared.certificate.Kind.TheVariants.{Table 
 ghost use Rattle.rp_evidence.specs.declared.certificate.Kind.TheVariants.{Random as RandomKind};
 ghost use Rattle.rp_orders.specs.OrderMixtures.{AreUnitsOf};
 ghost use Rattle.rp_table.specs.Tables.{goods_of};
-ghost use Rattle.rp_command_line.specs.CommandLine.{file_set};
+ghost use Rattle.rp_command_line.specs.CommandLine.{file_set, takes_levels};
 ghost use Rattle.rp_command_line.specs.Named.{named_line};
 ghost use Rattle.rp_command_line.specs.Ranges.{IsSized};
 ghost use Rattle.rp_command_line.specs.declared.commands.FileSet.TheVariants as files;
-ghost use Rattle.rp_run.specs.InnerContents.{AreOf};
-ghost use Rattle.rp_run.specs.InnerLoadings.{AreContentsOf, LoadsLine};
-ghost use Rattle.rp_run.specs.declared.contents.Contents.TheVariants as contents;
-ghost use Rattle.rp_types.specs.declared.types.Rational.{Rational as TypeOf};
+ghost use Rattle.rp_run.specs.Answers.{HasContents};
+ghost use Rattle.rp_run.specs.Contents as contents;
+ghost use Rattle.rp_run.specs.InnerLoadings.{LoadsLine, MayHaveLevels};
 
 use crate::files::{Cause, load_certificate};
 use crate::number_files::{
@@ -24,7 +24,7 @@ use crate::number_files::{
 use crate::patches::patches_of;
 use crate::tables::load_line_table;
 use crate::units::units_of;
-use rp_command_line::{FileSet, Line};
+use rp_command_line::Line;
 use rp_cost::{Asked, Tech};
 use rp_evidence::{Certificate, Kind};
 use rp_menu::Menus;
@@ -36,215 +36,53 @@ use rp_table::{Bundles, Prices, Table};
 use rp_types::Rational;
 use std::alloc::Global;
 
-/// What the files of a line hold, by the set of files of its command.
-#[derive(Drop)]
-pub enum Contents {
-    Nothing,
-    Table(Table),
-    TableAndCertificate(Table, Certificate),
-    TableAndPricesWithExpenditure(Table, Prices),
-    TableAndPrices(Table, Prices),
-    TableAndBundles(Table, Bundles),
-    /// The patches of choices from budgets, with their rational types.
-    Choices(Patches, Seq<Rational>),
-    /// The same, with a certificate.
-    ChoicesAndCertificate(Patches, Seq<Rational>, Certificate),
-    /// Choices from menus, with the units of their cells.
-    Menus(Menus, Units),
-    TechnologyAndAsked(Tech, Asked),
-}
-
-impl Contents {
-    /// The table, with levels or without.
-    pub(crate) fn any_table(&self) -> &Table
-        requires { AreOf true files.Table self.now }
-        ensures { self.now ≡ contents.Table result.now }
-    {
-        match self {
-            Contents::Table(table) => table,
-            _ => unreachable!(),
-        }
-    }
-
-    /// The table, which has no levels.
-    pub(crate) fn table(&self) -> &Table
-        requires { AreOf false files.Table self.now }
-        ensures held { self.now ≡ contents.Table result.now }
-        ensures no_levels { result.now.levels ≡ [] }
-    {
-        match self {
-            Contents::Table(table) => table,
-            _ => unreachable!(),
-        }
-    }
-
-    /// The table, with levels or without, and the certificate on it.
-    pub(crate) fn table_and_certificate(&self) -> (&Table, &Certificate)
-        requires { AreOf true files.TableAndCertificate self.now }
-        ensures held { self.now ≡ contents.TableAndCertificate result.0.now result.1.now }
-        ensures kind { IsCertificateOf TableKind result.1.now }
-    {
-        match self {
-            Contents::TableAndCertificate(table, certificate) => (table, certificate),
-            _ => unreachable!(),
-        }
-    }
-
-    /// The table, and the new prices with their expenditures.
-    pub(crate) fn table_and_prices_with_expenditure(&self) -> (&Table, &Prices)
-        requires { AreOf false files.TableAndPricesWithExpenditure self.now }
-        ensures held { self.now ≡ contents.TableAndPricesWithExpenditure result.0.now result.1.now }
-        ensures no_levels { result.0.now.levels ≡ [] }
-        ensures spent { IsSpentOn result.0.now result.1.now }
-    {
-        match self {
-            Contents::TableAndPricesWithExpenditure(table, new) => (table, new),
-            _ => unreachable!(),
-        }
-    }
-
-    /// The table, and the new prices.
-    pub(crate) fn table_and_prices(&self) -> (&Table, &Prices)
-        requires { AreOf false files.TableAndPrices self.now }
-        ensures held { self.now ≡ contents.TableAndPrices result.0.now result.1.now }
-        ensures no_levels { result.0.now.levels ≡ [] }
-        ensures goods { result.1.now.goods ≡ goods_of result.0.now }
-    {
-        match self {
-            Contents::TableAndPrices(table, new) => (table, new),
-            _ => unreachable!(),
-        }
-    }
-
-    /// The table, with levels or without, and the bundles.
-    pub(crate) fn table_and_bundles(&self) -> (&Table, &Bundles)
-        requires { AreOf true files.TableAndBundles self.now }
-        ensures held { self.now ≡ contents.TableAndBundles result.0.now result.1.now }
-        ensures goods { result.1.now.goods ≡ goods_of result.0.now }
-    {
-        match self {
-            Contents::TableAndBundles(table, bundles) => (table, bundles),
-            _ => unreachable!(),
-        }
-    }
-
-    /// The patches of choices, and their rational types.
-    pub(crate) fn choices(&self) -> (&Patches, &Seq<Rational>)
-        requires { AreOf false files.Choices self.now }
-        ensures held { self.now ≡ contents.Choices result.0.now result.1.now }
-        ensures all { AreTyped (typed result.0.now result.1.now) }
-    {
-        match self {
-            Contents::Choices(patches, types) => (patches, types),
-            _ => unreachable!(),
-        }
-    }
-
-    /// The patches of choices, and the certificate on them.
-    pub(crate) fn choices_and_certificate(&self) -> (&Patches, &Certificate)
-        requires { AreOf false files.ChoicesAndCertificate self.now }
-        ensures held { (types : List TypeOf)
-            × (self.now ≡ contents.ChoicesAndCertificate result.0.now types result.1.now) }
-        ensures kind { IsCertificateOf RandomKind result.1.now }
-    {
-        match self {
-            Contents::ChoicesAndCertificate(patches, _, certificate) => (patches, certificate),
-            _ => unreachable!(),
-        }
-    }
-
-    /// The menus, and the units of their cells.
-    pub(crate) fn menus(&self) -> (&Menus, &Units)
-        requires { AreOf false files.Menus self.now }
-        ensures held { self.now ≡ contents.Menus result.0.now result.1.now }
-        ensures are { AreUnitsOf result.0.now result.1.now }
-    {
-        match self {
-            Contents::Menus(seen, units) => (seen, units),
-            _ => unreachable!(),
-        }
-    }
-
-    /// The technology, and the outputs that are asked of it.
-    pub(crate) fn technology_and_asked(&self) -> (&Tech, &Asked)
-        requires { AreOf false files.TechnologyAndAsked self.now }
-        ensures held { self.now ≡ contents.TechnologyAndAsked result.0.now result.1.now }
-        ensures inputs { result.1.now.prices.goods ≡ goods_of result.0.now.table }
-    {
-        match self {
-            Contents::TechnologyAndAsked(tech, asked) => (tech, asked),
-            _ => unreachable!(),
-        }
-    }
-}
-
-/// What the files of a line hold. They are read in the order of the words, each whole before the next.
-pub(crate) fn read_contents<'a, D: Desk>(
-    alloc: Global,
-    desk: &mut D,
-    line: &Line<'a>,
-) -> Result<Contents, Cause<'a>>
-    requires sized { IsSized (named_line line.now) }
-    ensures { LoadsLine D.bytes D.faults D.calls D.asked desk.old desk.new (named_line line.now)
-        (AreContentsOf (D.bytes desk.old) (named_line line.now)) result }
-{
-    match line.command.files() {
-        FileSet::Nothing => Ok(Contents::Nothing),
-        FileSet::Table => load_table_alone(alloc, desk, line),
-        FileSet::TableAndCertificate => load_table_certificate(alloc, desk, line),
-        FileSet::TableAndPricesWithExpenditure => {
-            load_table_prices_with_expenditure(alloc, desk, line)
-        }
-        FileSet::TableAndPrices => load_table_prices(alloc, desk, line),
-        FileSet::TableAndBundles => load_table_bundles(alloc, desk, line),
-        FileSet::Choices => load_patches(alloc, desk, line),
-        FileSet::ChoicesAndCertificate => load_patches_certificate(alloc, desk, line),
-        FileSet::Menus => load_menus_with_units(alloc, desk, line),
-        FileSet::TechnologyAndAsked => load_technology_asked(alloc, desk, line),
-    }
-}
-
 /// The table in one file.
-fn load_table_alone<'a, D: Desk>(
+pub(crate) fn load_table<'a, D: Desk>(
     alloc: Global,
     desk: &mut D,
     line: &Line<'a>,
-) -> Result<Contents, Cause<'a>>
+) -> Result<Table, Cause<'a>>
     requires sized { IsSized (named_line line.now) }
     requires files { file_set (named_line line.now) ≡ files.Table }
-    ensures { LoadsLine D.bytes D.faults D.calls D.asked desk.old desk.new (named_line line.now)
-        (AreContentsOf (D.bytes desk.old) (named_line line.now)) result }
+    ensures loads { LoadsLine D.bytes D.faults D.calls D.asked desk.old desk.new
+        (named_line line.now) (λ table. HasContents (D.bytes desk.old) (named_line line.now)
+        (contents.Table table)) result }
+    ensures levels { IfOk result (MayHaveLevels (takes_levels (named_line line.now))) }
 {
-    let table = load_line_table(alloc, desk, line)?;
-    Ok(Contents::Table(table))
+    load_line_table(alloc, desk, line)
 }
 
 /// The table in one file, and a certificate on a table in another.
-fn load_table_certificate<'a, D: Desk>(
+pub(crate) fn load_table_certificate<'a, D: Desk>(
     alloc: Global,
     desk: &mut D,
     line: &Line<'a>,
-) -> Result<Contents, Cause<'a>>
+) -> Result<(Table, Certificate), Cause<'a>>
     requires sized { IsSized (named_line line.now) }
     requires files { file_set (named_line line.now) ≡ files.TableAndCertificate }
-    ensures { LoadsLine D.bytes D.faults D.calls D.asked desk.old desk.new (named_line line.now)
-        (AreContentsOf (D.bytes desk.old) (named_line line.now)) result }
+    ensures loads { LoadsLine D.bytes D.faults D.calls D.asked desk.old desk.new
+        (named_line line.now) (λ both. HasContents (D.bytes desk.old) (named_line line.now)
+        (contents.TableAndCertificate both.0 both.1)) result }
+    ensures kind { IfOk result (λ both. IsCertificateOf TableKind both.1) }
 {
     let table = load_line_table(alloc, desk, line)?;
     let certificate = load_certificate(alloc, desk, line.arguments.file(1), Kind::Table)?;
-    Ok(Contents::TableAndCertificate(table, certificate))
+    Ok((table, certificate))
 }
 
 /// The table in one file, and the new budgets beside it in another.
-fn load_table_prices_with_expenditure<'a, D: Desk>(
+pub(crate) fn load_table_prices_with_expenditure<'a, D: Desk>(
     alloc: Global,
     desk: &mut D,
     line: &Line<'a>,
-) -> Result<Contents, Cause<'a>>
+) -> Result<(Table, Prices), Cause<'a>>
     requires sized { IsSized (named_line line.now) }
     requires files { file_set (named_line line.now) ≡ files.TableAndPricesWithExpenditure }
-    ensures { LoadsLine D.bytes D.faults D.calls D.asked desk.old desk.new (named_line line.now)
-        (AreContentsOf (D.bytes desk.old) (named_line line.now)) result }
+    ensures loads { LoadsLine D.bytes D.faults D.calls D.asked desk.old desk.new
+        (named_line line.now) (λ both. HasContents (D.bytes desk.old) (named_line line.now)
+        (contents.TableAndPricesWithExpenditure both.0 both.1)) result }
+    ensures levels { IfOk result (λ both. MayHaveLevels (takes_levels (named_line line.now)) both.0) }
+    ensures spent { IfOk result (λ both. IsSpentOn both.0 both.1) }
 {
     let table = load_line_table(alloc, desk, line)?;
     let new = load_numbers(
@@ -253,104 +91,116 @@ fn load_table_prices_with_expenditure<'a, D: Desk>(
         line.arguments.file(1),
         &BudgetedPricesFile(&table),
     )?;
-    Ok(Contents::TableAndPricesWithExpenditure(table, new))
+    Ok((table, new))
 }
 
 /// The table in one file, and the new prices beside it in another.
-fn load_table_prices<'a, D: Desk>(
+pub(crate) fn load_table_prices<'a, D: Desk>(
     alloc: Global,
     desk: &mut D,
     line: &Line<'a>,
-) -> Result<Contents, Cause<'a>>
+) -> Result<(Table, Prices), Cause<'a>>
     requires sized { IsSized (named_line line.now) }
     requires files { file_set (named_line line.now) ≡ files.TableAndPrices }
-    ensures { LoadsLine D.bytes D.faults D.calls D.asked desk.old desk.new (named_line line.now)
-        (AreContentsOf (D.bytes desk.old) (named_line line.now)) result }
+    ensures loads { LoadsLine D.bytes D.faults D.calls D.asked desk.old desk.new
+        (named_line line.now) (λ both. HasContents (D.bytes desk.old) (named_line line.now)
+        (contents.TableAndPrices both.0 both.1)) result }
+    ensures levels { IfOk result (λ both. MayHaveLevels (takes_levels (named_line line.now)) both.0) }
+    ensures goods { IfOk result (λ both. both.1.goods ≡ goods_of both.0) }
 {
     let table = load_line_table(alloc, desk, line)?;
     let new = load_numbers(alloc, desk, line.arguments.file(1), &PricesFile(&table))?;
-    Ok(Contents::TableAndPrices(table, new))
+    Ok((table, new))
 }
 
 /// The table in one file, and the bundles beside it in another.
-fn load_table_bundles<'a, D: Desk>(
+pub(crate) fn load_table_bundles<'a, D: Desk>(
     alloc: Global,
     desk: &mut D,
     line: &Line<'a>,
-) -> Result<Contents, Cause<'a>>
+) -> Result<(Table, Bundles), Cause<'a>>
     requires sized { IsSized (named_line line.now) }
     requires files { file_set (named_line line.now) ≡ files.TableAndBundles }
-    ensures { LoadsLine D.bytes D.faults D.calls D.asked desk.old desk.new (named_line line.now)
-        (AreContentsOf (D.bytes desk.old) (named_line line.now)) result }
+    ensures loads { LoadsLine D.bytes D.faults D.calls D.asked desk.old desk.new
+        (named_line line.now) (λ both. HasContents (D.bytes desk.old) (named_line line.now)
+        (contents.TableAndBundles both.0 both.1)) result }
+    ensures goods { IfOk result (λ both. both.1.goods ≡ goods_of both.0) }
 {
     let table = load_line_table(alloc, desk, line)?;
     let bundles = load_numbers(alloc, desk, line.arguments.file(1), &BundlesFile(&table))?;
-    Ok(Contents::TableAndBundles(table, bundles))
+    Ok((table, bundles))
 }
 
 /// The patches of choices from budgets, in two files, with their rational types.
-fn load_patches<'a, D: Desk>(
+pub(crate) fn load_patches<'a, D: Desk>(
     alloc: Global,
     desk: &mut D,
     line: &Line<'a>,
-) -> Result<Contents, Cause<'a>>
+) -> Result<(Patches, Seq<Rational>), Cause<'a>>
     requires sized { IsSized (named_line line.now) }
     requires files { file_set (named_line line.now) ≡ files.Choices }
-    ensures { LoadsLine D.bytes D.faults D.calls D.asked desk.old desk.new (named_line line.now)
-        (AreContentsOf (D.bytes desk.old) (named_line line.now)) result }
+    ensures loads { LoadsLine D.bytes D.faults D.calls D.asked desk.old desk.new
+        (named_line line.now) (λ both. HasContents (D.bytes desk.old) (named_line line.now)
+        (contents.Choices both.0 both.1)) result }
+    ensures typed { IfOk result (λ both. AreTyped (typed both.0 both.1)) }
 {
     let budgets = load_numbers(alloc, desk, line.arguments.file(0), &BudgetsFile)?;
     let choices = load_numbers(alloc, desk, line.arguments.file(1), &ChoicesFile(&budgets))?;
-    let (patches, types) = patches_of(alloc, &budgets, &choices, line.arguments.per)?;
-    Ok(Contents::Choices(patches, types))
+    patches_of(alloc, &budgets, &choices, line.arguments.per)
 }
 
 /// The same, and then a certificate on them in a third file, which is read before the patches are made.
-fn load_patches_certificate<'a, D: Desk>(
+pub(crate) fn load_patches_certificate<'a, D: Desk>(
     alloc: Global,
     desk: &mut D,
     line: &Line<'a>,
-) -> Result<Contents, Cause<'a>>
+) -> Result<(Patches, Seq<Rational>, Certificate), Cause<'a>>
     requires sized { IsSized (named_line line.now) }
     requires files { file_set (named_line line.now) ≡ files.ChoicesAndCertificate }
-    ensures { LoadsLine D.bytes D.faults D.calls D.asked desk.old desk.new (named_line line.now)
-        (AreContentsOf (D.bytes desk.old) (named_line line.now)) result }
+    ensures loads { LoadsLine D.bytes D.faults D.calls D.asked desk.old desk.new
+        (named_line line.now) (λ all. HasContents (D.bytes desk.old) (named_line line.now)
+        (contents.ChoicesAndCertificate all.0 all.1 all.2)) result }
+    ensures kind { IfOk result (λ all. IsCertificateOf RandomKind all.2) }
 {
     let budgets = load_numbers(alloc, desk, line.arguments.file(0), &BudgetsFile)?;
     let choices = load_numbers(alloc, desk, line.arguments.file(1), &ChoicesFile(&budgets))?;
     let certificate = load_certificate(alloc, desk, line.arguments.file(2), Kind::Random)?;
     let (patches, types) = patches_of(alloc, &budgets, &choices, line.arguments.per)?;
-    Ok(Contents::ChoicesAndCertificate(patches, types, certificate))
+    Ok((patches, types, certificate))
 }
 
 /// The choices from menus in one file, with the units of their cells.
-fn load_menus_with_units<'a, D: Desk>(
+pub(crate) fn load_menus_with_units<'a, D: Desk>(
     alloc: Global,
     desk: &mut D,
     line: &Line<'a>,
-) -> Result<Contents, Cause<'a>>
+) -> Result<(Menus, Units), Cause<'a>>
     requires sized { IsSized (named_line line.now) }
     requires files { file_set (named_line line.now) ≡ files.Menus }
-    ensures { LoadsLine D.bytes D.faults D.calls D.asked desk.old desk.new (named_line line.now)
-        (AreContentsOf (D.bytes desk.old) (named_line line.now)) result }
+    ensures loads { LoadsLine D.bytes D.faults D.calls D.asked desk.old desk.new
+        (named_line line.now) (λ both. HasContents (D.bytes desk.old) (named_line line.now)
+        (contents.Menus both.0 both.1)) result }
+    ensures units { IfOk result (λ both. AreUnitsOf both.0 both.1) }
 {
     let seen = load_numbers(alloc, desk, line.arguments.file(0), &MenusFile)?;
     let units = units_of(alloc, &seen, line.arguments.per)?;
-    Ok(Contents::Menus(seen, units))
+    Ok((seen, units))
 }
 
 /// The technology in one file, and the outputs that are asked of it in another.
-fn load_technology_asked<'a, D: Desk>(
+pub(crate) fn load_technology_asked<'a, D: Desk>(
     alloc: Global,
     desk: &mut D,
     line: &Line<'a>,
-) -> Result<Contents, Cause<'a>>
+) -> Result<(Tech, Asked), Cause<'a>>
     requires sized { IsSized (named_line line.now) }
     requires files { file_set (named_line line.now) ≡ files.TechnologyAndAsked }
-    ensures { LoadsLine D.bytes D.faults D.calls D.asked desk.old desk.new (named_line line.now)
-        (AreContentsOf (D.bytes desk.old) (named_line line.now)) result }
+    ensures loads { LoadsLine D.bytes D.faults D.calls D.asked desk.old desk.new
+        (named_line line.now) (λ both. HasContents (D.bytes desk.old) (named_line line.now)
+        (contents.TechnologyAndAsked both.0 both.1)) result }
+    ensures goods { IfOk result (λ both. both.1.prices.goods ≡ goods_of both.0.table) }
 {
     let tech = load_numbers(alloc, desk, line.arguments.file(0), &TechnologyFile)?;
     let asked = load_numbers(alloc, desk, line.arguments.file(1), &AskedFile(&tech))?;
-    Ok(Contents::TechnologyAndAsked(tech, asked))
+    Ok((tech, asked))
 }

@@ -8,9 +8,8 @@ ghost use Rattle.rp_command_line.specs.declared.commands.FileSet.TheVariants.{Ch
 ghost use Rattle.rp_command_line.specs.declared.commands.FileSet.TheVariants.{ChoicesAndCertificate};
 ghost use Rattle.rp_command_line.specs.declared.commands.FileSet.TheVariants.{TableAndCertificate};
 ghost use Rattle.rp_run.specs.ChosenInFiles.{AreOfChoicesIn};
-ghost use Rattle.rp_run.specs.Contents.{ContentsIn, Denotes, HasNumbersAlone};
-ghost use Rattle.rp_run.specs.declared.contents.Contents.{Contents};
-ghost use Rattle.rp_run.specs.declared.contents.Contents.TheVariants as contents;
+ghost use Rattle.rp_run.specs.Contents.{Contents, ContentsIn, Denotes, HasNumbersAlone};
+ghost use Rattle.rp_run.specs.Contents as contents;
 
 /// The bytes of a line's files denote at most one content or one refusal: no two contents, no two lines of a refusal, and
 /// never both. So what is answered over known files is decided by them. Where the files hold numbers alone (tables, new

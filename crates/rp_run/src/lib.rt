@@ -16,7 +16,6 @@ mod telling;
 mod told;
 mod units;
 
-pub use contents::Contents;
 pub use laws::{bytes_denote_one_input_or_refusal, patches_are_of_choices_in_files};
 pub use rp_answers::{Status, trial_table};
 pub use running::{run, run_edition};

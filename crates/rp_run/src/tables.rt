@@ -3,8 +3,7 @@ ghost use Rattle.std.specs.Prelude.{◌≡◌, IfOk, IfErr, Ok};
 ghost use Rattle.rp_command_line.specs.CommandLine.{file_at, takes_levels};
 ghost use Rattle.rp_command_line.specs.Named.{named_line};
 ghost use Rattle.rp_run.specs.InnerCauses.{IsReadingCause};
-ghost use Rattle.rp_run.specs.InnerContents.{MayHaveLevels};
-ghost use Rattle.rp_run.specs.InnerLoadings.{LoadsFile};
+ghost use Rattle.rp_run.specs.InnerLoadings.{LoadsFile, MayHaveLevels};
 ghost use Rattle.rp_run.specs.Readings.{Just, TakenTable, unless_levelled};
 ghost use Rattle.rp_limits.specs.declared.run.TheConstants.{MOST_BYTES};
 

@@ -6,12 +6,11 @@ use Rattle.rp_command_line.specs.Named.{named_line}
 use Rattle.rp_command_line.specs.Ranges.{IsSized}
 use Rattle.rp_command_line.specs.declared.commands.FileSet.TheVariants.{ChoicesAndCertificate}
 use Rattle.rp_run.specs.ChoiceContents.{TypedPatchesOf}
-use Rattle.rp_run.specs.InnerLoadings.{AreContentsOf, LoadsLine}
 use Rattle.rp_run.specs.Readings.{AndThen, CertificateIn, Just, numbers_in}
 use Rattle.rp_limits.specs.declared.run.TheConstants.{MOST_BYTES, MOST_CERTIFICATE_BYTES}
-use Rattle.rp_run.specs.declared.contents.Contents.TheVariants as contents
+use Rattle.rp_run.specs.Contents as contents
 use Rattle.rp_run.proofs.FileLemmas.{then_caused}
-use Rattle.rp_run.proofs.LoadLemmas.{IsOverThree, failed_on, over_three, three_first_none, three_held, three_last_none, three_second_none, three_third_none}
+use Rattle.rp_run.proofs.LoadLemmas.{IsOverThree, over_three, three_first_none, three_held, three_last_none, three_second_none, three_third_none}
 use Rattle.rp_run.proofs.contents.load_patches_certificate.Goals as goal
 
 three : (line : Line) → file_set line ≡ ChoicesAndCertificate → IsSized line
@@ -22,42 +21,30 @@ three line holds sized =
     (λ a b read. AndThen (TypedPatchesOf a b line.arguments.per) (λ made. Just (Ok (contents.ChoicesAndCertificate made.0 made.1 read))))
     holds sized refl (λ files f s t. refl) (λ bytes r read. read) (λ files text refused. refused) (λ files text refused. refused)
 
-pub returns-in_err-budgets : goal.returns-in_err-budgets
-returns-in_err-budgets g c =
-    let line = named_line c.args.line.now in
-    let old = c.args.desk.now in
-    failed_on c.from_residual.result c.in_err-budgets.field-0.0 (LoadsLine g.D.Desk.bytes g.D.Desk.faults g.D.Desk.calls g.D.Desk.asked old _ line (AreContentsOf (g.D.Desk.bytes old) line)) c.from_residual.ensures
-    (three_first_none g.D.Desk.bytes g.D.Desk.faults g.D.Desk.calls g.D.Desk.asked line ChoicesAndCertificate MOST_BYTES MOST_BYTES MOST_CERTIFICATE_BYTES _ _ _ _ (three line c.requires.files c.requires.sized) old _ c.in_err-budgets.field-0.0
-    (rw c.file.ensures at c.in_err-budgets.ensures.loads))
+pub returns-in_err-budgets-clause-loads : goal.returns-in_err-budgets-clause-loads
+returns-in_err-budgets-clause-loads g c =
+    three_first_none (three (named_line c.args.line.now) c.requires.files c.requires.sized) _ c.args.desk.now _ c.from_residual.result c.in_err-budgets.field-0.0 c.from_residual.ensures (rw c.file.ensures at c.in_err-budgets.ensures.loads)
 
-pub returns-in_err-choices : goal.returns-in_err-choices
-returns-in_err-choices g c =
-    let line = named_line c.args.line.now in
-    let old = c.args.desk.now in
-    failed_on c.from_residual-in_err-choices.result c.in_err-choices.field-0.0 (LoadsLine g.D.Desk.bytes g.D.Desk.faults g.D.Desk.calls g.D.Desk.asked old _ line (AreContentsOf (g.D.Desk.bytes old) line)) c.from_residual-in_err-choices.ensures
-    (three_second_none g.D.Desk.bytes g.D.Desk.faults g.D.Desk.calls g.D.Desk.asked line ChoicesAndCertificate MOST_BYTES MOST_BYTES MOST_CERTIFICATE_BYTES _ _ _ _ (three line c.requires.files c.requires.sized) old _ _ c.in_ok-budgets.budgets c.in_err-choices.field-0.0 (rw c.file.ensures at c.in_ok-budgets.ensures.loads)
-    (rw c.file-2.ensures at c.in_err-choices.ensures.loads))
+pub returns-in_err-choices-clause-loads : goal.returns-in_err-choices-clause-loads
+returns-in_err-choices-clause-loads g c =
+    three_second_none (three (named_line c.args.line.now) c.requires.files c.requires.sized) _ c.args.desk.now _ _ c.in_ok-budgets.budgets (rw c.file.ensures at c.in_ok-budgets.ensures.loads)
+    c.from_residual-in_err-choices.result c.in_err-choices.field-0.0 c.from_residual-in_err-choices.ensures (rw c.file-2.ensures at c.in_err-choices.ensures.loads)
 
-pub returns-in_err-certificate : goal.returns-in_err-certificate
-returns-in_err-certificate g c =
-    let line = named_line c.args.line.now in
-    let old = c.args.desk.now in
-    failed_on c.from_residual-in_err-certificate.result c.in_err-certificate.field-0.0 (LoadsLine g.D.Desk.bytes g.D.Desk.faults g.D.Desk.calls g.D.Desk.asked old _ line (AreContentsOf (g.D.Desk.bytes old) line)) c.from_residual-in_err-certificate.ensures
-    (three_third_none g.D.Desk.bytes g.D.Desk.faults g.D.Desk.calls g.D.Desk.asked line ChoicesAndCertificate MOST_BYTES MOST_BYTES MOST_CERTIFICATE_BYTES _ _ _ _ (three line c.requires.files c.requires.sized) old _ _ _ c.in_ok-budgets.budgets c.in_ok-choices.choices (rw c.file.ensures at c.in_ok-budgets.ensures.loads) (rw c.file-2.ensures at c.in_ok-choices.ensures.loads)
-    c.in_err-certificate.field-0.0 (rw c.file-3.ensures at c.in_err-certificate.ensures.loads))
+pub returns-in_err-certificate-clause-loads : goal.returns-in_err-certificate-clause-loads
+returns-in_err-certificate-clause-loads g c =
+    three_third_none (three (named_line c.args.line.now) c.requires.files c.requires.sized) _ c.args.desk.now _ _ _ c.in_ok-budgets.budgets c.in_ok-choices.choices (rw c.file.ensures at c.in_ok-budgets.ensures.loads) (rw c.file-2.ensures at c.in_ok-choices.ensures.loads)
+    c.from_residual-in_err-certificate.result c.in_err-certificate.field-0.0 c.from_residual-in_err-certificate.ensures (rw c.file-3.ensures at c.in_err-certificate.ensures.loads)
 
-pub returns-in_err-patches : goal.returns-in_err-patches
-returns-in_err-patches g c =
-    let line = named_line c.args.line.now in
-    let old = c.args.desk.now in
+pub returns-in_err-patches-clause-loads : goal.returns-in_err-patches-clause-loads
+returns-in_err-patches-clause-loads g c =
     let why = c.in_err-patches.field-0.0 in
-    failed_on c.from_residual-in_err-patches.result why (LoadsLine g.D.Desk.bytes g.D.Desk.faults g.D.Desk.calls g.D.Desk.asked old _ line (AreContentsOf (g.D.Desk.bytes old) line)) c.from_residual-in_err-patches.ensures
-    (three_last_none g.D.Desk.bytes g.D.Desk.faults g.D.Desk.calls g.D.Desk.asked line ChoicesAndCertificate MOST_BYTES MOST_BYTES MOST_CERTIFICATE_BYTES _ _ _ _ (three line c.requires.files c.requires.sized) old _ _ _ c.in_ok-budgets.budgets c.in_ok-choices.choices (rw c.file.ensures at c.in_ok-budgets.ensures.loads) (rw c.file-2.ensures at c.in_ok-choices.ensures.loads) c.in_ok-certificate.certificate (rw c.file-3.ensures at c.in_ok-certificate.ensures.loads) why
-    (then_caused (TypedPatchesOf c.in_ok-budgets.budgets c.in_ok-choices.choices line.arguments.per) (λ made. contents.ChoicesAndCertificate made.0 made.1 c.in_ok-certificate.certificate) why c.in_err-patches.ensures.caused))
+    let read = c.in_ok-certificate.certificate in
+    three_last_none (three (named_line c.args.line.now) c.requires.files c.requires.sized) _ c.args.desk.now _ _ _ c.in_ok-budgets.budgets c.in_ok-choices.choices (rw c.file.ensures at c.in_ok-budgets.ensures.loads) (rw c.file-2.ensures at c.in_ok-choices.ensures.loads) read (rw c.file-3.ensures at c.in_ok-certificate.ensures.loads)
+    c.from_residual-in_err-patches.result why c.from_residual-in_err-patches.ensures
+    (then_caused (TypedPatchesOf c.in_ok-budgets.budgets c.in_ok-choices.choices (named_line c.args.line.now).arguments.per) (λ made. contents.ChoicesAndCertificate made.0 made.1 read) why c.in_err-patches.ensures.caused)
 
-pub returns : goal.returns
-returns g c =
-    let line = named_line c.args.line.now in
-    three_held g.D.Desk.bytes g.D.Desk.faults g.D.Desk.calls g.D.Desk.asked line ChoicesAndCertificate MOST_BYTES MOST_BYTES MOST_CERTIFICATE_BYTES _ _ _ _ (three line c.requires.files c.requires.sized) c.args.desk.now _ _ _ c.in_ok-budgets.budgets c.in_ok-choices.choices (rw c.file.ensures at c.in_ok-budgets.ensures.loads) (rw c.file-2.ensures at c.in_ok-choices.ensures.loads) c.in_ok-certificate.certificate (rw c.file-3.ensures at c.in_ok-certificate.ensures.loads)
-    (contents.ChoicesAndCertificate c.in_ok-patches.patches c.in_ok-patches.types c.in_ok-certificate.certificate)
-    ((c.in_ok-patches.patches, c.in_ok-patches.types), c.in_ok-patches.ensures.made, refl) c.in_ok-certificate.ensures.kind
+pub returns-clause-loads : goal.returns-clause-loads
+returns-clause-loads g c =
+    let read = c.in_ok-certificate.certificate in
+    three_held (three (named_line c.args.line.now) c.requires.files c.requires.sized) _ c.args.desk.now _ _ _ c.in_ok-budgets.budgets c.in_ok-choices.choices (rw c.file.ensures at c.in_ok-budgets.ensures.loads) (rw c.file-2.ensures at c.in_ok-choices.ensures.loads) read (rw c.file-3.ensures at c.in_ok-certificate.ensures.loads)
+    _ (contents.ChoicesAndCertificate c.in_ok-patches.patches c.in_ok-patches.types read) ((c.in_ok-patches.patches, c.in_ok-patches.types), c.in_ok-patches.ensures.made, refl) (λ has. has)

@@ -5,11 +5,10 @@ use Rattle.rp_command_line.specs.CommandLine.{Line, file_at, file_set, takes_lev
 use Rattle.rp_command_line.specs.Named.{named_line}
 use Rattle.rp_command_line.specs.Ranges.{IsSized}
 use Rattle.rp_command_line.specs.declared.commands.FileSet.TheVariants.{TableAndPrices}
-use Rattle.rp_run.specs.InnerLoadings.{AreContentsOf, LoadsLine}
 use Rattle.rp_run.specs.Readings.{Just, NumbersIn, taken_table}
 use Rattle.rp_limits.specs.declared.run.TheConstants.{MOST_BYTES}
-use Rattle.rp_run.specs.declared.contents.Contents.TheVariants as contents
-use Rattle.rp_run.proofs.LoadLemmas.{IsOverTwo, failed_on, over_two, two_first_none, two_held, two_second_none}
+use Rattle.rp_run.specs.Contents as contents
+use Rattle.rp_run.proofs.LoadLemmas.{IsOverTwo, over_two, two_first_none, two_held, two_second_none}
 use Rattle.rp_run.proofs.contents.load_table_prices.Goals as goal
 
 two : (line : Line) → file_set line ≡ TableAndPrices → IsSized line
@@ -18,25 +17,16 @@ two line holds sized =
     over_two line TableAndPrices MOST_BYTES MOST_BYTES (taken_table (takes_levels line) (file_at line 0)) (λ a. NumbersIn (file_at line 1) (prices_beside false a)) (λ a b. Just (Ok (contents.TableAndPrices a b)))
     holds sized refl (λ files f s. refl) (λ bytes r read. read) (λ files text refused. refused)
 
-pub returns-in_err-table : goal.returns-in_err-table
-returns-in_err-table g c =
-    let line = named_line c.args.line.now in
-    let old = c.args.desk.now in
-    failed_on c.from_residual.result c.in_err-table.field-0.0 (LoadsLine g.D.Desk.bytes g.D.Desk.faults g.D.Desk.calls g.D.Desk.asked old _ line (AreContentsOf (g.D.Desk.bytes old) line)) c.from_residual.ensures
-    (two_first_none g.D.Desk.bytes g.D.Desk.faults g.D.Desk.calls g.D.Desk.asked line TableAndPrices MOST_BYTES MOST_BYTES _ _ _ (two line c.requires.files c.requires.sized) old _ c.in_err-table.field-0.0
-    c.in_err-table.ensures.loads)
+pub returns-in_err-table-clause-loads : goal.returns-in_err-table-clause-loads
+returns-in_err-table-clause-loads g c =
+    two_first_none (two (named_line c.args.line.now) c.requires.files c.requires.sized) _ c.args.desk.now _ c.from_residual.result c.in_err-table.field-0.0 c.from_residual.ensures c.in_err-table.ensures.loads
 
-pub returns-in_err-new : goal.returns-in_err-new
-returns-in_err-new g c =
-    let line = named_line c.args.line.now in
-    let old = c.args.desk.now in
-    failed_on c.from_residual-in_err-new.result c.in_err-new.field-0.0 (LoadsLine g.D.Desk.bytes g.D.Desk.faults g.D.Desk.calls g.D.Desk.asked old _ line (AreContentsOf (g.D.Desk.bytes old) line)) c.from_residual-in_err-new.ensures
-    (two_second_none g.D.Desk.bytes g.D.Desk.faults g.D.Desk.calls g.D.Desk.asked line TableAndPrices MOST_BYTES MOST_BYTES _ _ _ (two line c.requires.files c.requires.sized) old _ _ c.in_ok-table.table
-    c.in_ok-table.ensures.loads c.in_err-new.field-0.0 (rw c.file.ensures at c.in_err-new.ensures.loads))
+pub returns-in_err-new-clause-loads : goal.returns-in_err-new-clause-loads
+returns-in_err-new-clause-loads g c =
+    two_second_none (two (named_line c.args.line.now) c.requires.files c.requires.sized) _ c.args.desk.now _ _ c.in_ok-table.table c.in_ok-table.ensures.loads
+    c.from_residual-in_err-new.result c.in_err-new.field-0.0 c.from_residual-in_err-new.ensures (rw c.file.ensures at c.in_err-new.ensures.loads)
 
-pub returns : goal.returns
-returns g c =
-    let line = named_line c.args.line.now in
-    two_held g.D.Desk.bytes g.D.Desk.faults g.D.Desk.calls g.D.Desk.asked line TableAndPrices MOST_BYTES MOST_BYTES _ _ _ (two line c.requires.files c.requires.sized) c.args.desk.now _ _ c.in_ok-table.table
-    c.in_ok-table.ensures.loads c.in_ok-new.new (rw c.file.ensures at c.in_ok-new.ensures.loads)
-    (contents.TableAndPrices c.in_ok-table.table c.in_ok-new.new) refl (c.in_ok-table.ensures.levels, c.in_ok-new.ensures.fitting)
+pub returns-clause-loads : goal.returns-clause-loads
+returns-clause-loads g c =
+    two_held (two (named_line c.args.line.now) c.requires.files c.requires.sized) _ c.args.desk.now _ _ c.in_ok-table.table c.in_ok-table.ensures.loads c.in_ok-new.new (rw c.file.ensures at c.in_ok-new.ensures.loads)
+    _ (contents.TableAndPrices c.in_ok-table.table c.in_ok-new.new) refl (λ has. has)

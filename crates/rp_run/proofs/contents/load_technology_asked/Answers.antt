@@ -4,11 +4,10 @@ use Rattle.rp_command_line.specs.CommandLine.{Line, file_at, file_set}
 use Rattle.rp_command_line.specs.Named.{named_line}
 use Rattle.rp_command_line.specs.Ranges.{IsSized}
 use Rattle.rp_command_line.specs.declared.commands.FileSet.TheVariants.{TechnologyAndAsked}
-use Rattle.rp_run.specs.InnerLoadings.{AreContentsOf, LoadsLine}
 use Rattle.rp_run.specs.Readings.{Just, NumbersIn, numbers_in}
 use Rattle.rp_limits.specs.declared.run.TheConstants.{MOST_BYTES}
-use Rattle.rp_run.specs.declared.contents.Contents.TheVariants as contents
-use Rattle.rp_run.proofs.LoadLemmas.{IsOverTwo, failed_on, over_two, two_first_none, two_held, two_second_none}
+use Rattle.rp_run.specs.Contents as contents
+use Rattle.rp_run.proofs.LoadLemmas.{IsOverTwo, over_two, two_first_none, two_held, two_second_none}
 use Rattle.rp_run.proofs.contents.load_technology_asked.Goals as goal
 
 two : (line : Line) → file_set line ≡ TechnologyAndAsked → IsSized line
@@ -17,25 +16,16 @@ two line holds sized =
     over_two line TechnologyAndAsked MOST_BYTES MOST_BYTES (numbers_in (file_at line 0) tech_in) (λ a. NumbersIn (file_at line 1) (asked_beside a)) (λ a b. Just (Ok (contents.TechnologyAndAsked a b)))
     holds sized refl (λ files f s. refl) (λ bytes r read. read) (λ files text refused. refused)
 
-pub returns-in_err-tech : goal.returns-in_err-tech
-returns-in_err-tech g c =
-    let line = named_line c.args.line.now in
-    let old = c.args.desk.now in
-    failed_on c.from_residual.result c.in_err-tech.field-0.0 (LoadsLine g.D.Desk.bytes g.D.Desk.faults g.D.Desk.calls g.D.Desk.asked old _ line (AreContentsOf (g.D.Desk.bytes old) line)) c.from_residual.ensures
-    (two_first_none g.D.Desk.bytes g.D.Desk.faults g.D.Desk.calls g.D.Desk.asked line TechnologyAndAsked MOST_BYTES MOST_BYTES _ _ _ (two line c.requires.files c.requires.sized) old _ c.in_err-tech.field-0.0
-    (rw c.file.ensures at c.in_err-tech.ensures.loads))
+pub returns-in_err-tech-clause-loads : goal.returns-in_err-tech-clause-loads
+returns-in_err-tech-clause-loads g c =
+    two_first_none (two (named_line c.args.line.now) c.requires.files c.requires.sized) _ c.args.desk.now _ c.from_residual.result c.in_err-tech.field-0.0 c.from_residual.ensures (rw c.file.ensures at c.in_err-tech.ensures.loads)
 
-pub returns-in_err-asked : goal.returns-in_err-asked
-returns-in_err-asked g c =
-    let line = named_line c.args.line.now in
-    let old = c.args.desk.now in
-    failed_on c.from_residual-in_err-asked.result c.in_err-asked.field-0.0 (LoadsLine g.D.Desk.bytes g.D.Desk.faults g.D.Desk.calls g.D.Desk.asked old _ line (AreContentsOf (g.D.Desk.bytes old) line)) c.from_residual-in_err-asked.ensures
-    (two_second_none g.D.Desk.bytes g.D.Desk.faults g.D.Desk.calls g.D.Desk.asked line TechnologyAndAsked MOST_BYTES MOST_BYTES _ _ _ (two line c.requires.files c.requires.sized) old _ _ c.in_ok-tech.tech
-    (rw c.file.ensures at c.in_ok-tech.ensures.loads) c.in_err-asked.field-0.0 (rw c.file-2.ensures at c.in_err-asked.ensures.loads))
+pub returns-in_err-asked-clause-loads : goal.returns-in_err-asked-clause-loads
+returns-in_err-asked-clause-loads g c =
+    two_second_none (two (named_line c.args.line.now) c.requires.files c.requires.sized) _ c.args.desk.now _ _ c.in_ok-tech.tech (rw c.file.ensures at c.in_ok-tech.ensures.loads)
+    c.from_residual-in_err-asked.result c.in_err-asked.field-0.0 c.from_residual-in_err-asked.ensures (rw c.file-2.ensures at c.in_err-asked.ensures.loads)
 
-pub returns : goal.returns
-returns g c =
-    let line = named_line c.args.line.now in
-    two_held g.D.Desk.bytes g.D.Desk.faults g.D.Desk.calls g.D.Desk.asked line TechnologyAndAsked MOST_BYTES MOST_BYTES _ _ _ (two line c.requires.files c.requires.sized) c.args.desk.now _ _ c.in_ok-tech.tech
-    (rw c.file.ensures at c.in_ok-tech.ensures.loads) c.in_ok-asked.asked (rw c.file-2.ensures at c.in_ok-asked.ensures.loads)
-    (contents.TechnologyAndAsked c.in_ok-tech.tech c.in_ok-asked.asked) refl c.in_ok-asked.ensures.fitting
+pub returns-clause-loads : goal.returns-clause-loads
+returns-clause-loads g c =
+    two_held (two (named_line c.args.line.now) c.requires.files c.requires.sized) _ c.args.desk.now _ _ c.in_ok-tech.tech (rw c.file.ensures at c.in_ok-tech.ensures.loads) c.in_ok-asked.asked (rw c.file-2.ensures at c.in_ok-asked.ensures.loads)
+    _ (contents.TechnologyAndAsked c.in_ok-tech.tech c.in_ok-asked.asked) refl (λ has. has)

@@ -128,7 +128,7 @@ returns-in-Ok-answer_line-clause-turns g c =
     let asked : line_in c.args.words.now.items ≡ Some (named_line c.in-Some.line) = rw (c.in-Some.is, c.as_slice.ensures.value) at (sym c.in-Ok.ensures.exact) in
     record {
       in_turn = λ line is. (let same : named_line c.in-Some.line ≡ line = cc in
-          subst (λ l. AreReadInTurn (g.D.Desk.bytes c.args.desk.now) (g.D.Desk.calls c.args.desk.now) (g.D.Desk.calls c.answer_line.new.desk) l) same c.in-Ok-answer_line.ensures.in_turn);
+          subst (λ l. AreReadInTurn (g.D.Desk.bytes c.args.desk.now) (g.D.Desk.calls c.args.desk.now) (g.D.Desk.calls c.answer_line.new.desk) l) same c.in-Ok-answer_line.ensures.reads.in_turn);
       none_asked = λ none. cc;
     }
 
@@ -137,7 +137,7 @@ returns-clause-turns g c =
     let asked : line_in c.args.words.now.items ≡ Some (named_line c.in-Some.line) = rw (c.in-Some.is, c.as_slice.ensures.value) at (sym c.in-Ok.ensures.exact) in
     record {
       in_turn = λ line is. (let same : named_line c.in-Some.line ≡ line = cc in
-          subst (λ l. AreReadInTurn (g.D.Desk.bytes c.args.desk.now) (g.D.Desk.calls c.args.desk.now) (g.D.Desk.calls c.answer_line.new.desk) l) same c.in-Err.ensures.in_turn);
+          subst (λ l. AreReadInTurn (g.D.Desk.bytes c.args.desk.now) (g.D.Desk.calls c.args.desk.now) (g.D.Desk.calls c.answer_line.new.desk) l) same c.in-Err.ensures.reads.in_turn);
       none_asked = λ none. cc;
     }
 
@@ -152,7 +152,7 @@ returns-in-Ok-answer_line-clause-names g c =
     let asked : line_in c.args.words.now.items ≡ Some (named_line c.in-Some.line) = rw (c.in-Some.is, c.as_slice.ensures.value) at (sym c.in-Ok.ensures.exact) in
     record {
       by_name = λ line is. (let same : named_line c.in-Some.line ≡ line = cc in
-          subst (λ l. AreAskedInTurn (g.D.Desk.bytes c.args.desk.now) (g.D.Desk.asked c.args.desk.now) (g.D.Desk.asked c.answer_line.new.desk) l) same c.in-Ok-answer_line.ensures.by_name);
+          subst (λ l. AreAskedInTurn (g.D.Desk.bytes c.args.desk.now) (g.D.Desk.asked c.args.desk.now) (g.D.Desk.asked c.answer_line.new.desk) l) same c.in-Ok-answer_line.ensures.reads.by_name);
       no_name = λ none reads is. cc;
     }
 
@@ -161,7 +161,7 @@ returns-clause-names g c =
     let asked : line_in c.args.words.now.items ≡ Some (named_line c.in-Some.line) = rw (c.in-Some.is, c.as_slice.ensures.value) at (sym c.in-Ok.ensures.exact) in
     record {
       by_name = λ line is. (let same : named_line c.in-Some.line ≡ line = cc in
-          subst (λ l. AreAskedInTurn (g.D.Desk.bytes c.args.desk.now) (g.D.Desk.asked c.args.desk.now) (g.D.Desk.asked c.answer_line.new.desk) l) same c.in-Err.ensures.by_name);
+          subst (λ l. AreAskedInTurn (g.D.Desk.bytes c.args.desk.now) (g.D.Desk.asked c.args.desk.now) (g.D.Desk.asked c.answer_line.new.desk) l) same c.in-Err.ensures.reads.by_name);
       no_name = λ none reads is. cc;
     }
 
