@@ -16,16 +16,12 @@ ghost use Rattle.rp_run.specs.InnerLoadings.{AreContentsOf, LoadsLine};
 ghost use Rattle.rp_run.specs.declared.contents.Contents.TheVariants as contents;
 ghost use Rattle.rp_types.specs.declared.types.Rational.{Rational as TypeOf};
 
-use crate::files::{Cause, load_certificate};
-use crate::number_files::{
-    AskedFile, BudgetedPricesFile, BudgetsFile, BundlesFile, ChoicesFile, MenusFile, PricesFile,
-    TechnologyFile, load_numbers,
-};
+use crate::files::{Cause, load_certificate, load_menus, load_numbers};
 use crate::patches::patches_of;
 use crate::tables::load_line_table;
 use crate::units::units_of;
 use rp_command_line::{FileSet, Line};
-use rp_cost::{Asked, Tech};
+use rp_cost::{Asked, AskedFile, Tech, TechFile};
 use rp_evidence::{Certificate, Kind};
 use rp_menu::Menus;
 use rp_num::Seq;
@@ -33,6 +29,7 @@ use rp_outside::Desk;
 use rp_patch::Patches;
 use rp_patch::apportionment::Units;
 use rp_table::{Bundles, Prices, Table};
+use rp_text::{BudgetsFile, BundlesFile, ChoicesFile, PricesFile};
 use rp_types::Rational;
 use std::alloc::Global;
 
@@ -251,7 +248,10 @@ fn load_table_prices_with_expenditure<'a, D: Desk>(
         alloc,
         desk,
         line.arguments.file(1),
-        &BudgetedPricesFile(&table),
+        &PricesFile {
+            table: &table,
+            with_m: true,
+        },
     )?;
     Ok(Contents::TableAndPricesWithExpenditure(table, new))
 }
@@ -268,7 +268,15 @@ fn load_table_prices<'a, D: Desk>(
         (AreContentsOf (D.bytes desk.old) (named_line line.now)) result }
 {
     let table = load_line_table(alloc, desk, line)?;
-    let new = load_numbers(alloc, desk, line.arguments.file(1), &PricesFile(&table))?;
+    let new = load_numbers(
+        alloc,
+        desk,
+        line.arguments.file(1),
+        &PricesFile {
+            table: &table,
+            with_m: false,
+        },
+    )?;
     Ok(Contents::TableAndPrices(table, new))
 }
 
@@ -334,7 +342,7 @@ fn load_menus_with_units<'a, D: Desk>(
     ensures { LoadsLine D.bytes D.faults D.calls D.asked desk.old desk.new (named_line line.now)
         (AreContentsOf (D.bytes desk.old) (named_line line.now)) result }
 {
-    let seen = load_numbers(alloc, desk, line.arguments.file(0), &MenusFile)?;
+    let seen = load_menus(alloc, desk, line.arguments.file(0))?;
     let units = units_of(alloc, &seen, line.arguments.per)?;
     Ok(Contents::Menus(seen, units))
 }
@@ -350,7 +358,7 @@ fn load_technology_asked<'a, D: Desk>(
     ensures { LoadsLine D.bytes D.faults D.calls D.asked desk.old desk.new (named_line line.now)
         (AreContentsOf (D.bytes desk.old) (named_line line.now)) result }
 {
-    let tech = load_numbers(alloc, desk, line.arguments.file(0), &TechnologyFile)?;
+    let tech = load_numbers(alloc, desk, line.arguments.file(0), &TechFile)?;
     let asked = load_numbers(alloc, desk, line.arguments.file(1), &AskedFile(&tech))?;
     Ok(Contents::TechnologyAndAsked(tech, asked))
 }

@@ -24,7 +24,7 @@ returns-in_err-seen g c =
     let why = c.in_err-seen.field-0.0 in
     failed_on c.from_residual.result why (LoadsLine g.D.Desk.bytes g.D.Desk.faults g.D.Desk.calls g.D.Desk.asked old _ line (AreContentsOf (g.D.Desk.bytes old) line)) c.from_residual.ensures
     (one_none g.D.Desk.bytes g.D.Desk.faults g.D.Desk.calls g.D.Desk.asked line Menus MOST_BYTES _ _ (one line c.requires.files c.requires.sized) old _ why
-    (no_menus_load g.D.Desk.bytes g.D.Desk.faults g.D.Desk.calls g.D.Desk.asked old _ (file_at line 0) line.arguments.per why (rw c.file.ensures at c.in_err-seen.ensures.loads)))
+    (no_menus_load g.D.Desk.bytes g.D.Desk.faults g.D.Desk.calls g.D.Desk.asked old _ (file_at line 0) line.arguments.per why (rw c.file.ensures at c.in_err-seen.ensures)))
 
 pub returns-in_err-units : goal.returns-in_err-units
 returns-in_err-units g c =
@@ -33,11 +33,11 @@ returns-in_err-units g c =
     let why = c.in_err-units.field-0.0 in
     failed_on c.from_residual-in_err-units.result why (LoadsLine g.D.Desk.bytes g.D.Desk.faults g.D.Desk.calls g.D.Desk.asked old _ line (AreContentsOf (g.D.Desk.bytes old) line)) c.from_residual-in_err-units.ensures
     (one_none g.D.Desk.bytes g.D.Desk.faults g.D.Desk.calls g.D.Desk.asked line Menus MOST_BYTES _ _ (one line c.requires.files c.requires.sized) old _ why
-    (no_units_load g.D.Desk.bytes g.D.Desk.faults g.D.Desk.calls g.D.Desk.asked old _ (file_at line 0) line.arguments.per c.in_ok-seen.seen why (rw c.file.ensures at c.in_ok-seen.ensures.loads) c.in_err-units.ensures.caused))
+    (no_units_load g.D.Desk.bytes g.D.Desk.faults g.D.Desk.calls g.D.Desk.asked old _ (file_at line 0) line.arguments.per c.in_ok-seen.seen why (rw c.file.ensures at c.in_ok-seen.ensures) c.in_err-units.ensures.caused))
 
 pub returns : goal.returns
 returns g c =
     let line = named_line c.args.line.now in
     one_held g.D.Desk.bytes g.D.Desk.faults g.D.Desk.calls g.D.Desk.asked line Menus MOST_BYTES _ _ (one line c.requires.files c.requires.sized) c.args.desk.now _ (c.in_ok-seen.seen, c.in_ok-units.units) c.in_ok-units.ensures.made.1
     (menus_load g.D.Desk.bytes g.D.Desk.faults g.D.Desk.calls g.D.Desk.asked c.args.desk.now _ (file_at line 0) line.arguments.per c.in_ok-seen.seen c.in_ok-units.units
-    (rw c.file.ensures at c.in_ok-seen.ensures.loads) c.in_ok-units.ensures.made)
+    (rw c.file.ensures at c.in_ok-seen.ensures) c.in_ok-units.ensures.made)

@@ -1,6 +1,6 @@
 use Rattle.std.proofs.Common.{◌≡◌, Ok, refl}
 use Rattle.rp_evidence.specs.declared.certificate.Kind.TheVariants.{Random as RandomKind}
-use Rattle.rp_text.specs.Denotation.{budgets_in, choices_on}
+use Rattle.rp_text.specs.Denotation.{budgets_in, choices_on, denoted_budgets, denoted_choices}
 use Rattle.rp_command_line.specs.CommandLine.{Line, file_at, file_set}
 use Rattle.rp_command_line.specs.Named.{named_line}
 use Rattle.rp_command_line.specs.Ranges.{IsSized}
@@ -23,6 +23,7 @@ three line holds sized =
     holds sized refl (λ files f s t. refl) (λ bytes r read. read) (λ files text refused. refused) (λ files text refused. refused)
 
 pub returns-in_err-budgets : goal.returns-in_err-budgets
+unfolding denoted_budgets
 returns-in_err-budgets g c =
     let line = named_line c.args.line.now in
     let old = c.args.desk.now in
@@ -31,6 +32,7 @@ returns-in_err-budgets g c =
     (rw c.file.ensures at c.in_err-budgets.ensures.loads))
 
 pub returns-in_err-choices : goal.returns-in_err-choices
+unfolding denoted_budgets denoted_choices
 returns-in_err-choices g c =
     let line = named_line c.args.line.now in
     let old = c.args.desk.now in
@@ -39,6 +41,7 @@ returns-in_err-choices g c =
     (rw c.file-2.ensures at c.in_err-choices.ensures.loads))
 
 pub returns-in_err-certificate : goal.returns-in_err-certificate
+unfolding denoted_budgets denoted_choices
 returns-in_err-certificate g c =
     let line = named_line c.args.line.now in
     let old = c.args.desk.now in
@@ -47,6 +50,7 @@ returns-in_err-certificate g c =
     c.in_err-certificate.field-0.0 (rw c.file-3.ensures at c.in_err-certificate.ensures.loads))
 
 pub returns-in_err-patches : goal.returns-in_err-patches
+unfolding denoted_budgets denoted_choices
 returns-in_err-patches g c =
     let line = named_line c.args.line.now in
     let old = c.args.desk.now in
@@ -56,6 +60,7 @@ returns-in_err-patches g c =
     (then_caused (TypedPatchesOf c.in_ok-budgets.budgets c.in_ok-choices.choices line.arguments.per) (λ made. contents.ChoicesAndCertificate made.0 made.1 c.in_ok-certificate.certificate) why c.in_err-patches.ensures.caused))
 
 pub returns : goal.returns
+unfolding denoted_budgets denoted_choices
 returns g c =
     let line = named_line c.args.line.now in
     three_held g.D.Desk.bytes g.D.Desk.faults g.D.Desk.calls g.D.Desk.asked line ChoicesAndCertificate MOST_BYTES MOST_BYTES MOST_CERTIFICATE_BYTES _ _ _ _ (three line c.requires.files c.requires.sized) c.args.desk.now _ _ _ c.in_ok-budgets.budgets c.in_ok-choices.choices (rw c.file.ensures at c.in_ok-budgets.ensures.loads) (rw c.file-2.ensures at c.in_ok-choices.ensures.loads) c.in_ok-certificate.certificate (rw c.file-3.ensures at c.in_ok-certificate.ensures.loads)

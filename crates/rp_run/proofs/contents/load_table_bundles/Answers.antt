@@ -1,5 +1,5 @@
 use Rattle.std.proofs.Common.{◌≡◌, Ok, refl}
-use Rattle.rp_text.specs.Denotation.{bundles_beside}
+use Rattle.rp_text.specs.Denotation.{bundles_beside, denoted_bundles}
 use Rattle.rp_command_line.specs.CommandLine.{Line, file_at, file_set, takes_levels}
 use Rattle.rp_command_line.specs.Named.{named_line}
 use Rattle.rp_command_line.specs.Ranges.{IsSized}
@@ -26,6 +26,7 @@ returns-in_err-table g c =
     c.in_err-table.ensures.loads)
 
 pub returns-in_err-bundles : goal.returns-in_err-bundles
+unfolding denoted_bundles
 returns-in_err-bundles g c =
     let line = named_line c.args.line.now in
     let old = c.args.desk.now in
@@ -34,8 +35,9 @@ returns-in_err-bundles g c =
     c.in_ok-table.ensures.loads c.in_err-bundles.field-0.0 (rw c.file.ensures at c.in_err-bundles.ensures.loads))
 
 pub returns : goal.returns
+unfolding denoted_bundles
 returns g c =
     let line = named_line c.args.line.now in
     two_held g.D.Desk.bytes g.D.Desk.faults g.D.Desk.calls g.D.Desk.asked line TableAndBundles MOST_BYTES MOST_BYTES _ _ _ (two line c.requires.files c.requires.sized) c.args.desk.now _ _ c.in_ok-table.table
     c.in_ok-table.ensures.loads c.in_ok-bundles.bundles (rw c.file.ensures at c.in_ok-bundles.ensures.loads)
-    (contents.TableAndBundles c.in_ok-table.table c.in_ok-bundles.bundles) refl (c.in_ok-table.ensures.levels, c.in_ok-bundles.ensures.fitting)
+    (contents.TableAndBundles c.in_ok-table.table c.in_ok-bundles.bundles) refl (c.in_ok-table.ensures.levels, c.in_ok-bundles.ensures.fitting.0)

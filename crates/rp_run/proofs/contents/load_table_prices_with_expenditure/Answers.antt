@@ -1,6 +1,6 @@
 use Rattle.std.proofs.Common.{◌≡◌, Ok, refl}
 use Rattle.std.specs.Prelude.{true}
-use Rattle.rp_text.specs.Denotation.{prices_beside}
+use Rattle.rp_text.specs.Denotation.{denoted_prices, prices_beside}
 use Rattle.rp_command_line.specs.CommandLine.{Line, file_at, file_set, takes_levels}
 use Rattle.rp_command_line.specs.Named.{named_line}
 use Rattle.rp_command_line.specs.Ranges.{IsSized}
@@ -27,6 +27,7 @@ returns-in_err-table g c =
     c.in_err-table.ensures.loads)
 
 pub returns-in_err-new : goal.returns-in_err-new
+unfolding denoted_prices
 returns-in_err-new g c =
     let line = named_line c.args.line.now in
     let old = c.args.desk.now in
@@ -35,8 +36,9 @@ returns-in_err-new g c =
     c.in_ok-table.ensures.loads c.in_err-new.field-0.0 (rw c.file.ensures at c.in_err-new.ensures.loads))
 
 pub returns : goal.returns
+unfolding denoted_prices
 returns g c =
     let line = named_line c.args.line.now in
     two_held g.D.Desk.bytes g.D.Desk.faults g.D.Desk.calls g.D.Desk.asked line TableAndPricesWithExpenditure MOST_BYTES MOST_BYTES _ _ _ (two line c.requires.files c.requires.sized) c.args.desk.now _ _ c.in_ok-table.table
     c.in_ok-table.ensures.loads c.in_ok-new.new (rw c.file.ensures at c.in_ok-new.ensures.loads)
-    (contents.TableAndPricesWithExpenditure c.in_ok-table.table c.in_ok-new.new) refl (c.in_ok-table.ensures.levels, c.in_ok-new.ensures.fitting)
+    (contents.TableAndPricesWithExpenditure c.in_ok-table.table c.in_ok-new.new) refl (c.in_ok-table.ensures.levels, record { goods = c.in_ok-new.ensures.fitting.0; spent = c.in_ok-new.ensures.fitting.2 refl })

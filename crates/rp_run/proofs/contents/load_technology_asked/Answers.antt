@@ -1,5 +1,5 @@
 use Rattle.std.proofs.Common.{◌≡◌, Ok, refl}
-use Rattle.rp_cost.specs.Denotation.{asked_beside, tech_in}
+use Rattle.rp_cost.specs.Denotation.{asked_beside, denoted_asked, denoted_tech, tech_in}
 use Rattle.rp_command_line.specs.CommandLine.{Line, file_at, file_set}
 use Rattle.rp_command_line.specs.Named.{named_line}
 use Rattle.rp_command_line.specs.Ranges.{IsSized}
@@ -18,6 +18,7 @@ two line holds sized =
     holds sized refl (λ files f s. refl) (λ bytes r read. read) (λ files text refused. refused)
 
 pub returns-in_err-tech : goal.returns-in_err-tech
+unfolding denoted_tech
 returns-in_err-tech g c =
     let line = named_line c.args.line.now in
     let old = c.args.desk.now in
@@ -26,6 +27,7 @@ returns-in_err-tech g c =
     (rw c.file.ensures at c.in_err-tech.ensures.loads))
 
 pub returns-in_err-asked : goal.returns-in_err-asked
+unfolding denoted_tech denoted_asked
 returns-in_err-asked g c =
     let line = named_line c.args.line.now in
     let old = c.args.desk.now in
@@ -34,6 +36,7 @@ returns-in_err-asked g c =
     (rw c.file.ensures at c.in_ok-tech.ensures.loads) c.in_err-asked.field-0.0 (rw c.file-2.ensures at c.in_err-asked.ensures.loads))
 
 pub returns : goal.returns
+unfolding denoted_tech denoted_asked
 returns g c =
     let line = named_line c.args.line.now in
     two_held g.D.Desk.bytes g.D.Desk.faults g.D.Desk.calls g.D.Desk.asked line TechnologyAndAsked MOST_BYTES MOST_BYTES _ _ _ (two line c.requires.files c.requires.sized) c.args.desk.now _ _ c.in_ok-tech.tech
