@@ -16,16 +16,12 @@ ghost use Rattle.rp_run.specs.Answers.{HasContents};
 ghost use Rattle.rp_run.specs.Contents as contents;
 ghost use Rattle.rp_run.specs.InnerLoadings.{LoadsLine, MayHaveLevels};
 
-use crate::files::{Cause, load_certificate};
-use crate::number_files::{
-    AskedFile, BudgetedPricesFile, BudgetsFile, BundlesFile, ChoicesFile, MenusFile, PricesFile,
-    TechnologyFile, load_numbers,
-};
+use crate::files::{Cause, load_certificate, load_menus, load_numbers};
 use crate::patches::patches_of;
 use crate::tables::load_line_table;
 use crate::units::units_of;
 use rp_command_line::Line;
-use rp_cost::{Asked, Tech};
+use rp_cost::{Asked, AskedFile, Tech, TechFile};
 use rp_evidence::{Certificate, Kind};
 use rp_menu::Menus;
 use rp_num::Seq;
@@ -33,6 +29,7 @@ use rp_outside::Desk;
 use rp_patch::Patches;
 use rp_patch::apportionment::Units;
 use rp_table::{Bundles, Prices, Table};
+use rp_text::{BudgetsFile, BundlesFile, ChoicesFile, PricesFile};
 use rp_types::Rational;
 use std::alloc::Global;
 
@@ -89,7 +86,10 @@ pub(crate) fn load_table_prices_with_expenditure<'a, D: Desk>(
         alloc,
         desk,
         line.arguments.file(1),
-        &BudgetedPricesFile(&table),
+        &PricesFile {
+            table: &table,
+            with_m: true,
+        },
     )?;
     Ok((table, new))
 }
@@ -109,7 +109,15 @@ pub(crate) fn load_table_prices<'a, D: Desk>(
     ensures goods { IfOk result (λ both. both.1.goods ≡ goods_of both.0) }
 {
     let table = load_line_table(alloc, desk, line)?;
-    let new = load_numbers(alloc, desk, line.arguments.file(1), &PricesFile(&table))?;
+    let new = load_numbers(
+        alloc,
+        desk,
+        line.arguments.file(1),
+        &PricesFile {
+            table: &table,
+            with_m: false,
+        },
+    )?;
     Ok((table, new))
 }
 
@@ -182,7 +190,7 @@ pub(crate) fn load_menus_with_units<'a, D: Desk>(
         (contents.Menus both.0 both.1)) result }
     ensures units { IfOk result (λ both. AreUnitsOf both.0 both.1) }
 {
-    let seen = load_numbers(alloc, desk, line.arguments.file(0), &MenusFile)?;
+    let seen = load_menus(alloc, desk, line.arguments.file(0))?;
     let units = units_of(alloc, &seen, line.arguments.per)?;
     Ok((seen, units))
 }
@@ -200,7 +208,7 @@ pub(crate) fn load_technology_asked<'a, D: Desk>(
         (contents.TechnologyAndAsked both.0 both.1)) result }
     ensures goods { IfOk result (λ both. both.1.prices.goods ≡ goods_of both.0.table) }
 {
-    let tech = load_numbers(alloc, desk, line.arguments.file(0), &TechnologyFile)?;
+    let tech = load_numbers(alloc, desk, line.arguments.file(0), &TechFile)?;
     let asked = load_numbers(alloc, desk, line.arguments.file(1), &AskedFile(&tech))?;
     Ok((tech, asked))
 }

@@ -1,6 +1,6 @@
-//! The files of a line: why one gives nothing, its bytes, and the loader of a certificate.
+//! The files of a line: why one gives nothing, and their loaders.
 ghost use Rattle.std.specs.Prelude.{◌≡◌, ◌+◌, ◌≤◌};
-ghost use Rattle.std.specs.Prelude.{IfOk, IfErr, Ok, length};
+ghost use Rattle.std.specs.Prelude.{IfOk, IfErr, Ok, Err, length};
 ghost use Rattle.rp_evidence.specs.Kinds.{IsCertificateOf};
 ghost use Rattle.rp_outside.specs.Asked.{AsksAtMostOnce, AsksOnce};
 ghost use Rattle.rp_outside.specs.Faults.{EachStays, NoneFalls};
@@ -9,16 +9,21 @@ ghost use Rattle.rp_outside.specs.Reads.{calls_through};
 ghost use Rattle.rp_run.specs.FaultLines as text;
 ghost use Rattle.rp_run.specs.Endings.{Rose};
 ghost use Rattle.rp_run.specs.InnerLoadings.{LoadsFile};
+ghost use Rattle.rp_run.specs.MenuContents.{MenusOf};
 ghost use Rattle.rp_run.specs.Readings.{CertificateIn, NumbersIn, all_bytes};
 ghost use Rattle.rp_run.specs.InnerCauses.{IsFaultCause, IsRefusal, IsFileCause};
+ghost use Rattle.rp_sheet.specs.Records.{records_in};
+ghost use Rattle.rp_sheet.specs.SheetFiles.{denoted_by};
 
 use crate::fault_text::{FileFault, text_of};
 use rp_evidence::{Certificate, Kind};
 use rp_json::read;
 use rp_limits::run::{MOST_BYTES, MOST_CERTIFICATE_BYTES};
+use rp_menu::{Menus, read_menus};
 use rp_num::NoMemory;
 use rp_outside::{Desk, LoadFault, load};
 use rp_print::push_line;
+use rp_sheet::{FileKind, read_file};
 use std::alloc::Global;
 
 /// Why a line has no input.
@@ -43,22 +48,44 @@ pub(crate) fn load_certificate<'a, D: Desk>(
     ensures kind { IfOk result (IsCertificateOf kind) }
 {
     match load(alloc, desk, file, MOST_CERTIFICATE_BYTES) {
-        Ok(bytes) => match read(alloc, bytes.as_slice(), kind) {
-            Ok(certificate) => Ok(certificate),
-            Err(fault) => Err(refusal(alloc, file, fault)),
-        },
+        Ok(bytes) => unless_refused(alloc, file, read(alloc, bytes.as_slice(), kind)),
         Err(LoadFault::Read) => Err(Cause::Read(file)),
         Err(LoadFault::TooLong) => Err(refused(alloc, file, b"TooLong")),
         Err(LoadFault::NoMemory) => Err(Cause::NoMemory),
     }
 }
 
-/// All bytes of a file of numbers.
-pub(crate) fn load_bytes<'a, D: Desk>(
+/// What a file of numbers of this kind holds.
+pub(crate) fn load_numbers<'a, D: Desk, K: FileKind>(
     alloc: Global,
     desk: &mut D,
     file: &'a str,
-) -> Result<Vec<u8>, Cause<'a>>
+    kind: &K,
+) -> Result<K::Value, Cause<'a>>
+    ensures loads { LoadsFile D.bytes D.faults D.calls D.asked desk.old desk.new MOST_BYTES
+        file.now (NumbersIn file.now (λ bytes. denoted_by (K.form kind.now) (K.goods kind.now)
+        (K.value kind.now) (records_in bytes))) result }
+    ensures fitting { IfOk result (K.fits kind.now) }
+{
+    let bytes = load_bytes(alloc, desk, file)?;
+    unless_refused(alloc, file, read_file(alloc, bytes.as_slice(), kind))
+}
+
+/// The choices from menus that a file holds.
+pub(crate) fn load_menus<'a, D: Desk>(
+    alloc: Global,
+    desk: &mut D,
+    file: &'a str,
+) -> Result<Menus, Cause<'a>>
+    ensures { LoadsFile D.bytes D.faults D.calls D.asked desk.old desk.new MOST_BYTES
+        file.now (MenusOf file.now) result }
+{
+    let bytes = load_bytes(alloc, desk, file)?;
+    unless_refused(alloc, file, read_menus(alloc, bytes.as_slice()))
+}
+
+/// All bytes of a file of numbers or of menus.
+fn load_bytes<'a, D: Desk>(alloc: Global, desk: &mut D, file: &'a str) -> Result<Vec<u8>, Cause<'a>>
     ensures content { IfOk result (λ v. AreAll (D.bytes desk.old file.now) v.items) }
     ensures few { IfOk result (λ v. length v.items ≤ MOST_BYTES) }
     ensures caused { IfErr result
@@ -79,8 +106,24 @@ pub(crate) fn load_bytes<'a, D: Desk>(
     }
 }
 
+/// What was read of a file, or the cause that its fault is.
+fn unless_refused<'a, A, F: FileFault>(
+    alloc: Global,
+    file: &'a str,
+    read: Result<A, F>,
+) -> Result<A, Cause<'a>>
+    ensures value { IfOk result (λ value. read ≡ Ok value) }
+    ensures caused { IfErr result (λ why. (fault : F) × (read ≡ Err fault)
+        × IsFaultCause F.no_memory (λ f. text.file_line file.now (F.text f)) fault why) }
+{
+    match read {
+        Ok(value) => Ok(value),
+        Err(fault) => Err(refusal(alloc, file, fault)),
+    }
+}
+
 /// The cause that a fault of a file is.
-pub(crate) fn refusal<'a, F: FileFault>(alloc: Global, file: &'a str, fault: F) -> Cause<'a>
+fn refusal<'a, F: FileFault>(alloc: Global, file: &'a str, fault: F) -> Cause<'a>
     ensures { IsFaultCause F.no_memory (λ f. text.file_line file.now (F.text f)) fault result }
 {
     let Some(told) = fault.told() else {

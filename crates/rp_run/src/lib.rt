@@ -7,7 +7,6 @@ mod fault_text;
 mod faults;
 mod files;
 mod laws;
-mod number_files;
 mod patches;
 mod running;
 mod sure;

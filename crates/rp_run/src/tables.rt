@@ -7,11 +7,11 @@ ghost use Rattle.rp_run.specs.InnerLoadings.{LoadsFile, MayHaveLevels};
 ghost use Rattle.rp_run.specs.Readings.{Just, TakenTable, unless_levelled};
 ghost use Rattle.rp_limits.specs.declared.run.TheConstants.{MOST_BYTES};
 
-use crate::files::{Cause, refused};
-use crate::number_files::{TableFile, load_numbers};
+use crate::files::{Cause, load_numbers, refused};
 use rp_command_line::Line;
 use rp_outside::Desk;
 use rp_table::Table;
+use rp_text::TableFile;
 use std::alloc::Global;
 
 /// The table in the first file of a line, for its command.

@@ -21,17 +21,17 @@ returns-in_err-seen-clause-loads g c =
     let line = named_line c.args.line.now in
     let why = c.in_err-seen.field-0.0 in
     one_none (one line c.requires.files c.requires.sized) c.args.desk.now _ _ c.from_residual.result why c.from_residual.ensures
-    (no_menus_load g.D.Desk.bytes g.D.Desk.faults g.D.Desk.calls g.D.Desk.asked c.args.desk.now _ (file_at line 0) line.arguments.per why (rw c.file.ensures at c.in_err-seen.ensures.loads))
+    (no_menus_load g.D.Desk.bytes g.D.Desk.faults g.D.Desk.calls g.D.Desk.asked c.args.desk.now _ (file_at line 0) line.arguments.per why (rw c.file.ensures at c.in_err-seen.ensures))
 
 pub returns-in_err-units-clause-loads : goal.returns-in_err-units-clause-loads
 returns-in_err-units-clause-loads g c =
     let line = named_line c.args.line.now in
     let why = c.in_err-units.field-0.0 in
     one_none (one line c.requires.files c.requires.sized) c.args.desk.now _ _ c.from_residual-in_err-units.result why c.from_residual-in_err-units.ensures
-    (no_units_load g.D.Desk.bytes g.D.Desk.faults g.D.Desk.calls g.D.Desk.asked c.args.desk.now _ (file_at line 0) line.arguments.per c.in_ok-seen.seen why (rw c.file.ensures at c.in_ok-seen.ensures.loads) c.in_err-units.ensures.caused)
+    (no_units_load g.D.Desk.bytes g.D.Desk.faults g.D.Desk.calls g.D.Desk.asked c.args.desk.now _ (file_at line 0) line.arguments.per c.in_ok-seen.seen why (rw c.file.ensures at c.in_ok-seen.ensures) c.in_err-units.ensures.caused)
 
 pub returns-clause-loads : goal.returns-clause-loads
 returns-clause-loads g c =
     let line = named_line c.args.line.now in
     one_held (one line c.requires.files c.requires.sized) c.args.desk.now _ _ _ (c.in_ok-seen.seen, c.in_ok-units.units)
-    (menus_load g.D.Desk.bytes g.D.Desk.faults g.D.Desk.calls g.D.Desk.asked c.args.desk.now _ (file_at line 0) line.arguments.per c.in_ok-seen.seen c.in_ok-units.units (rw c.file.ensures at c.in_ok-seen.ensures.loads) c.in_ok-units.ensures.made) (λ has. has)
+    (menus_load g.D.Desk.bytes g.D.Desk.faults g.D.Desk.calls g.D.Desk.asked c.args.desk.now _ (file_at line 0) line.arguments.per c.in_ok-seen.seen c.in_ok-units.units (rw c.file.ensures at c.in_ok-seen.ensures) c.in_ok-units.ensures.made) (λ has. has)

@@ -1,5 +1,5 @@
 use Rattle.std.proofs.Common.{◌≡◌, Ok, refl}
-use Rattle.rp_text.specs.Denotation.{budgets_in, choices_on}
+use Rattle.rp_text.specs.Denotation.{budgets_in, choices_on, denoted_budgets, denoted_choices}
 use Rattle.rp_command_line.specs.CommandLine.{Line, file_at, file_set}
 use Rattle.rp_command_line.specs.Named.{named_line}
 use Rattle.rp_command_line.specs.Ranges.{IsSized}
@@ -21,15 +21,18 @@ two line holds sized =
     holds sized refl (λ files f s. refl) (λ bytes r read. read) (λ files text refused. refused)
 
 pub returns-in_err-budgets-clause-loads : goal.returns-in_err-budgets-clause-loads
+unfolding denoted_budgets
 returns-in_err-budgets-clause-loads g c =
     two_first_none (two (named_line c.args.line.now) c.requires.files c.requires.sized) _ c.args.desk.now _ c.from_residual.result c.in_err-budgets.field-0.0 c.from_residual.ensures (rw c.file.ensures at c.in_err-budgets.ensures.loads)
 
 pub returns-in_err-choices-clause-loads : goal.returns-in_err-choices-clause-loads
+unfolding denoted_budgets denoted_choices
 returns-in_err-choices-clause-loads g c =
     two_second_none (two (named_line c.args.line.now) c.requires.files c.requires.sized) _ c.args.desk.now _ _ c.in_ok-budgets.budgets (rw c.file.ensures at c.in_ok-budgets.ensures.loads)
     c.from_residual-in_err-choices.result c.in_err-choices.field-0.0 c.from_residual-in_err-choices.ensures (rw c.file-2.ensures at c.in_err-choices.ensures.loads)
 
 pub returns-clause-loads : goal.returns-clause-loads
+unfolding denoted_budgets denoted_choices
 returns-clause-loads g c =
     let reading = TypedPatchesOf c.in_ok-budgets.budgets c.in_ok-choices.choices (named_line c.args.line.now).arguments.per in
     two_made (two (named_line c.args.line.now) c.requires.files c.requires.sized) _ c.args.desk.now _ _ c.in_ok-budgets.budgets (rw c.file.ensures at c.in_ok-budgets.ensures.loads) c.in_ok-choices.choices (rw c.file-2.ensures at c.in_ok-choices.ensures.loads)

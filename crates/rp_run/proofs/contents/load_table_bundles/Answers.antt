@@ -1,5 +1,5 @@
 use Rattle.std.proofs.Common.{◌≡◌, Ok, refl}
-use Rattle.rp_text.specs.Denotation.{bundles_beside}
+use Rattle.rp_text.specs.Denotation.{bundles_beside, denoted_bundles}
 use Rattle.rp_command_line.specs.CommandLine.{Line, file_at, file_set, takes_levels}
 use Rattle.rp_command_line.specs.Named.{named_line}
 use Rattle.rp_command_line.specs.Ranges.{IsSized}
@@ -21,11 +21,13 @@ returns-in_err-table-clause-loads g c =
     two_first_none (two (named_line c.args.line.now) c.requires.files c.requires.sized) _ c.args.desk.now _ c.from_residual.result c.in_err-table.field-0.0 c.from_residual.ensures c.in_err-table.ensures.loads
 
 pub returns-in_err-bundles-clause-loads : goal.returns-in_err-bundles-clause-loads
+unfolding denoted_bundles
 returns-in_err-bundles-clause-loads g c =
     two_second_none (two (named_line c.args.line.now) c.requires.files c.requires.sized) _ c.args.desk.now _ _ c.in_ok-table.table c.in_ok-table.ensures.loads
     c.from_residual-in_err-bundles.result c.in_err-bundles.field-0.0 c.from_residual-in_err-bundles.ensures (rw c.file.ensures at c.in_err-bundles.ensures.loads)
 
 pub returns-clause-loads : goal.returns-clause-loads
+unfolding denoted_bundles
 returns-clause-loads g c =
     two_held (two (named_line c.args.line.now) c.requires.files c.requires.sized) _ c.args.desk.now _ _ c.in_ok-table.table c.in_ok-table.ensures.loads c.in_ok-bundles.bundles (rw c.file.ensures at c.in_ok-bundles.ensures.loads)
     _ (contents.TableAndBundles c.in_ok-table.table c.in_ok-bundles.bundles) refl (λ has. has)

@@ -1,6 +1,6 @@
 use Rattle.std.proofs.Common.{◌≡◌, Ok, refl}
 use Rattle.std.specs.Prelude.{false}
-use Rattle.rp_text.specs.Denotation.{prices_beside}
+use Rattle.rp_text.specs.Denotation.{denoted_prices, prices_beside}
 use Rattle.rp_command_line.specs.CommandLine.{Line, file_at, file_set, takes_levels}
 use Rattle.rp_command_line.specs.Named.{named_line}
 use Rattle.rp_command_line.specs.Ranges.{IsSized}
@@ -22,11 +22,13 @@ returns-in_err-table-clause-loads g c =
     two_first_none (two (named_line c.args.line.now) c.requires.files c.requires.sized) _ c.args.desk.now _ c.from_residual.result c.in_err-table.field-0.0 c.from_residual.ensures c.in_err-table.ensures.loads
 
 pub returns-in_err-new-clause-loads : goal.returns-in_err-new-clause-loads
+unfolding denoted_prices
 returns-in_err-new-clause-loads g c =
     two_second_none (two (named_line c.args.line.now) c.requires.files c.requires.sized) _ c.args.desk.now _ _ c.in_ok-table.table c.in_ok-table.ensures.loads
     c.from_residual-in_err-new.result c.in_err-new.field-0.0 c.from_residual-in_err-new.ensures (rw c.file.ensures at c.in_err-new.ensures.loads)
 
 pub returns-clause-loads : goal.returns-clause-loads
+unfolding denoted_prices
 returns-clause-loads g c =
     two_held (two (named_line c.args.line.now) c.requires.files c.requires.sized) _ c.args.desk.now _ _ c.in_ok-table.table c.in_ok-table.ensures.loads c.in_ok-new.new (rw c.file.ensures at c.in_ok-new.ensures.loads)
     _ (contents.TableAndPrices c.in_ok-table.table c.in_ok-new.new) refl (λ has. has)

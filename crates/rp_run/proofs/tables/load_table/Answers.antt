@@ -1,5 +1,6 @@
 use Rattle.std.proofs.Common.{IfOk}
 use Rattle.rp_outside.specs.Asked.{AsksOnce}
+use Rattle.rp_text.specs.Denotation.{denoted_table}
 use Rattle.rp_run.specs.Endings.{Rose}
 use Rattle.rp_run.specs.Readings.{TakenTable}
 use Rattle.rp_run.proofs.AskedLemmas.{any_ok}
@@ -8,6 +9,7 @@ use Rattle.rp_run.proofs.LoadLemmas.{failed_on}
 use Rattle.rp_run.proofs.tables.load_table.Goals as goal
 
 pub returns-in_err-table-clause-loads : goal.returns-in_err-table-clause-loads
+unfolding denoted_table
 returns-in_err-table-clause-loads g c =
     let files = g.D.Desk.bytes c.args.desk.now in
     let rose = Rose (g.D.Desk.faults c.args.desk.now) (g.D.Desk.faults c.load_numbers.new.desk) in
@@ -23,6 +25,7 @@ returns-in_err-table-clause-loads g c =
     }
 
 pub returns-clause-loads : goal.returns-clause-loads
+unfolding denoted_table
 returns-clause-loads g c =
     let files = g.D.Desk.bytes c.args.desk.now in
     let rose = Rose (g.D.Desk.faults c.args.desk.now) (g.D.Desk.faults c.load_numbers.new.desk) in
