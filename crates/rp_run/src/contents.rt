@@ -82,15 +82,11 @@ pub(crate) fn load_table_prices_with_expenditure<'a, D: Desk>(
     ensures spent { IfOk result (λ both. IsSpentOn both.0 both.1) }
 {
     let table = load_line_table(alloc, desk, line)?;
-    let new = load_numbers(
-        alloc,
-        desk,
-        line.arguments.file(1),
-        &PricesFile {
-            table: &table,
-            with_m: true,
-        },
-    )?;
+    let kind = PricesFile {
+        table: &table,
+        with_m: true,
+    };
+    let new = load_numbers(alloc, desk, line.arguments.file(1), &kind)?;
     Ok((table, new))
 }
 
@@ -109,15 +105,11 @@ pub(crate) fn load_table_prices<'a, D: Desk>(
     ensures goods { IfOk result (λ both. both.1.goods ≡ goods_of both.0) }
 {
     let table = load_line_table(alloc, desk, line)?;
-    let new = load_numbers(
-        alloc,
-        desk,
-        line.arguments.file(1),
-        &PricesFile {
-            table: &table,
-            with_m: false,
-        },
-    )?;
+    let kind = PricesFile {
+        table: &table,
+        with_m: false,
+    };
+    let new = load_numbers(alloc, desk, line.arguments.file(1), &kind)?;
     Ok((table, new))
 }
 
