@@ -1,5 +1,5 @@
 -- A table of records, or the cause why there is none.
-use Rattle.std.proofs.Common.{◌≡◌, ◌≢◌, ◌≤◌, false, ℕ, List, Ok, Err, inl, inr, length, sym, ap, ◌∙◌, subst}
+use Rattle.std.proofs.Common.{◌≡◌, ◌≢◌, ◌≤◌, false, ℕ, List, Ok, Err, inr, length, sym, ap, ◌∙◌}
 use Rattle.rp_limits.specs.declared.long.TheConstants.{BYTES}
 use Rattle.rp_long.specs.Panels.{Panel, denoted_panel, panel_in}
 use Rattle.rp_long.specs.declared.fault.LongFault.{LongFault}

@@ -1,5 +1,5 @@
 -- Why a question about a long file has no table, as the functions of this crate hand it on.
-use Rattle.std.specs.Prelude.{◌≡◌, ⊤, ℕ, Bool, true, false, List, Option, Ok, Err}
+use Rattle.std.specs.Prelude.{◌≡◌, ⊤, ℕ, Bool, true, false, List, Ok, Err}
 use Rattle.rp_long.specs.Panels.{Panel, denoted_panel}
 use Rattle.rp_long.specs.declared.fault.LongFault.{LongFault}
 use Rattle.rp_long.specs.declared.fault.LongFault.TheVariants as long_fault
