@@ -1,9 +1,10 @@
 /*
  * rp.h - revealed preference, as calls over files in memory, and one that tells which files they need.
  *
- * `rp_answer` answers as the command `rp` does, to the same words over files of the same bytes, and `rp_answer_wide` as
- * `rp-wide`. No call reads a file, prints, starts a thread or keeps anything between calls. What each command takes and
- * writes is told in docs/FORMATS.md; `rp` below is the command's name in its own texts.
+ * `rp_answer` answers as the command `rp` does, to the same words over files of the same bytes, `rp_answer_wide` as
+ * `rp-wide`, and `rp_panel` as `rp-panel`. No call reads a file, prints, starts a thread or keeps anything between
+ * calls. What each command takes and writes is told in docs/FORMATS.md; `rp` below is the command's name in its own
+ * texts.
  *
  *   cc program.c -lrp                 with the shared library
  *   cc program.c librp.a              with the static one: it needs nothing but the C library
@@ -72,6 +73,23 @@ int32_t rp_answer(
  * of `rp_answer`.
  */
 int32_t rp_answer_wide(
+    const uint8_t *words, size_t words_length,
+    const uint8_t *names, size_t names_length,
+    const uint64_t *sizes, size_t files,
+    const uint8_t *bytes, size_t bytes_length,
+    uint8_t *output, size_t output_room,
+    uint8_t *told, size_t told_room,
+    uint64_t *output_length, uint64_t *told_length);
+
+/*
+ * Answers the words of `rp-panel`: a row of verdicts for each household of a long file.
+ *
+ * The words are LONG [--id NAME] [--keep NAME].. [--pump] [--power DRAWS SEED] [--wide], as docs/FORMATS.md tells, and
+ * the one file is LONG, under that name. The output is the table as comma-separated values. With RP_DONE there may be
+ * told lines too, one for each column of the long file that is left out. Arguments, ownership, threads and statuses are
+ * those of `rp_answer`; RP_REJECTED never comes.
+ */
+int32_t rp_panel(
     const uint8_t *words, size_t words_length,
     const uint8_t *names, size_t names_length,
     const uint64_t *sizes, size_t files,

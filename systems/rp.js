@@ -7,6 +7,9 @@
 /** One more than the most bytes that a file of any kind may have: a longer one is refused by its length alone. */
 export const MOST_READ = 16777217;
 
+/** The same of a long file of households. */
+export const MOST_LONG = 67108865;
+
 /** A file whose name or a word that is no text: it has a half of a pair of surrogates, or a zero byte. */
 export class NoText extends Error {}
 
@@ -70,18 +73,20 @@ class Room {
   }
 }
 
-const NO_MEMORY = { status: 6, output: new Uint8Array(), told: bytesOf.encode("rp: out of memory\n") };
+/** The answer where memory is short, by the program of that name. */
+function noMemory(program) {
+  return { status: 6, output: new Uint8Array(), told: bytesOf.encode(`${program}: out of memory\n`) };
+}
 
 /** Asks once, with this much room for the output and for what is told. */
 function ask(room, frame, outputRoom, toldRoom) {
-  const { words, names, sizes, bytes, files, isWide } = frame;
+  const { words, names, sizes, bytes, files, call } = frame;
   const places = [words, names, sizes, bytes].map((it) => room.put(it));
   const [output, told, lengths] = [room.take(outputRoom), room.take(toldRoom), room.take(16)];
   if (![...places, output, told, lengths].every(Boolean)) return null;
   const given = [places[0], words.length, places[1], names.length, places[2], files, places[3], bytes.length];
   const numbers = [...given, output, outputRoom, told, toldRoom, lengths, lengths + 8].map(BigInt);
-  const call = isWide ? room.exports.rp_answer_wide : room.exports.rp_answer;
-  const status = call(...numbers);
+  const status = room.exports[call](...numbers);
   const [outputLength, toldLength] = [room.number(lengths), room.number(lengths + 8)];
   const isWhole = outputLength <= outputRoom && toldLength <= toldRoom;
   const texts = isWhole ? [room.copy(output, outputLength), room.copy(told, toldLength)] : [];
@@ -109,8 +114,22 @@ class Library {
    * as `rp-wide`: what `rp` withholds is given wherever evidence of it is found.
    */
   answer(words, files = [], isWide = false) {
+    return this.#answer(isWide ? "rp_answer_wide" : "rp_answer", words, files, MOST_READ, 65536) ?? noMemory("rp");
+  }
+
+  /**
+   * Answers the words of `rp-panel` in the same way: a row of verdicts for each household of a long file. The table is
+   * rarely longer than the file, and then the first call has room for it.
+   */
+  panel(words, files = []) {
+    const longest = Math.max(65536, ...files.map((it) => it.bytes.length));
+    return this.#answer("rp_panel", words, files, MOST_LONG, longest) ?? noMemory("rp-panel");
+  }
+
+  /** What a call answers, at first with this much room for the output; nothing where memory is short. */
+  #answer(call, words, files, mostRead, firstRoom) {
     const sizes = new DataView(new ArrayBuffer(8 * files.length));
-    const bytes = files.map((it) => it.bytes.subarray(0, MOST_READ));
+    const bytes = files.map((it) => it.bytes.subarray(0, mostRead));
     bytes.forEach((it, at) => sizes.setBigUint64(8 * at, BigInt(it.length), true));
     const frame = {
       words: joined(words.map(ended)),
@@ -118,12 +137,12 @@ class Library {
       sizes: new Uint8Array(sizes.buffer),
       bytes: joined(bytes),
       files: files.length,
-      isWide,
+      call,
     };
-    let [outputRoom, toldRoom] = [65536, 4096];
+    let [outputRoom, toldRoom] = [firstRoom, 4096];
     for (;;) {
       const given = this.#call((room) => ask(room, frame, outputRoom, toldRoom));
-      if (!given) return NO_MEMORY;
+      if (!given) return null;
       if (given.isWhole) return { status: given.status, output: given.texts[0], told: given.texts[1] };
       outputRoom = Math.max(outputRoom, given.outputLength);
       toldRoom = Math.max(toldRoom, given.toldLength);
@@ -145,7 +164,7 @@ class Library {
     let namesRoom = 4096;
     for (;;) {
       const given = this.#call((room) => askNames(room, framed, namesRoom));
-      if (!given) return { status: NO_MEMORY.status, names: [] };
+      if (!given) return { status: noMemory("rp").status, names: [] };
       if (given.names) {
         const names = texts.decode(given.names).split("\0").slice(0, -1);
         return { status: given.status, names };

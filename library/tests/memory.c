@@ -30,18 +30,37 @@ void *__wrap_realloc(void *at, size_t size) {
     return fails() ? NULL : __real_realloc(at, size);
 }
 
-static const char words[] = "analyse\0t.csv", names[] = "t.csv";
+typedef int32_t Call(
+    const uint8_t *, size_t, const uint8_t *, size_t, const uint64_t *, size_t, const uint8_t *, size_t,
+    uint8_t *, size_t, uint8_t *, size_t, uint64_t *, uint64_t *);
+
+static const char words[] = "analyse\0t.csv", names[] = "t.csv", panel_words[] = "t.csv\0--pump\0--wide";
 static const char table[] = "p_a,q_a,p_b,q_b\n1,1,2,2\n2,2,1,1\n";
 /* One for which rp withholds a verdict, and rp-wide gives it. */
 static const char held[] = "p_a,q_a,p_b,q_b\n4194304,2097151,1,4194304\n1,1747627,3145727,2796203\n1,4194304,4194304,2097151\n";
-static const char line[] = "rp: out of memory\n";
+/* The same as those of one household, after one of another. */
+static const char panel[] = "household,p_a,q_a,p_b,q_b\nB,1,1,2,2\nA,4194304,2097151,1,4194304\n"
+    "A,1,1747627,3145727,2796203\nA,1,4194304,4194304,2097151\n";
 
-static int32_t call(int is_wide, uint8_t *output, size_t room, uint64_t *length, uint8_t *told, uint64_t *told_length) {
-    const char *text = is_wide ? held : table;
-    uint64_t size = strlen(text);
-    return (is_wide ? rp_answer_wide : rp_answer)(
-        (const uint8_t *)words, sizeof words, (const uint8_t *)names, sizeof names, &size, 1,
-        (const uint8_t *)text, size, output, room, told, 64, length, told_length);
+/* A call, the words and the text of the one file that it is made with, and the line where memory is short. */
+typedef struct {
+    Call *call;
+    const char *words;
+    size_t words_length;
+    const char *text, *line;
+} Kind;
+
+static const Kind kinds[] = {
+    {rp_answer, words, sizeof words, table, "rp: out of memory\n"},
+    {rp_answer_wide, words, sizeof words, held, "rp: out of memory\n"},
+    {rp_panel, panel_words, sizeof panel_words, panel, "rp-panel: out of memory\n"},
+};
+
+static int32_t call(const Kind *kind, uint8_t *output, size_t room, uint64_t *length, uint8_t *told, uint64_t *told_length) {
+    uint64_t size = strlen(kind->text);
+    return kind->call(
+        (const uint8_t *)kind->words, kind->words_length, (const uint8_t *)names, sizeof names, &size, 1,
+        (const uint8_t *)kind->text, size, output, room, told, 64, length, told_length);
 }
 
 /* The same of the call that names files; how often it was refused, or -1. */
@@ -65,19 +84,19 @@ static long name_refused(void) {
 }
 
 /* Each allocation of an answer fails in turn; whether an answer was wrong, or none was refused. */
-static int is_wrong(int is_wide) {
+static int is_wrong(const Kind *kind) {
     static uint8_t wanted[4096], output[4096], told[64];
     uint64_t wanted_length = 0, length = 0, told_length = 0;
-    int wrong = call(is_wide, wanted, sizeof wanted, &wanted_length, told, &told_length) != RP_DONE;
+    int wrong = call(kind, wanted, sizeof wanted, &wanted_length, told, &told_length) != RP_DONE;
     long place = 0, refused = 0;
     for (for_good = 0; for_good < 2; for_good++) {
         for (place = 0;; place++) {
             before = place;
-            int32_t status = call(is_wide, output, sizeof output, &length, told, &told_length);
+            int32_t status = call(kind, output, sizeof output, &length, told, &told_length);
             int was_reached = before < 0 || (for_good && before == 0);
             before = -1;
-            int is_refused = status == RP_NO_MEMORY && length == 0 && told_length == sizeof line - 1
-                && memcmp(told, line, sizeof line - 1) == 0;
+            int is_refused = status == RP_NO_MEMORY && length == 0 && told_length == strlen(kind->line)
+                && memcmp(told, kind->line, strlen(kind->line)) == 0;
             int is_answered = status == RP_DONE && length == wanted_length && told_length == 0
                 && memcmp(output, wanted, length) == 0;
             if (!is_refused && !is_answered) wrong |= printf("allocation %ld: status %d\n", place, (int)status) > 0;
@@ -90,7 +109,8 @@ static int is_wrong(int is_wide) {
 }
 
 int main(void) {
-    int wrong = is_wrong(0) + is_wrong(1);
+    int wrong = 0;
+    for (size_t it = 0; it < sizeof kinds / sizeof *kinds; it++) wrong |= is_wrong(&kinds[it]);
     long unnamed = name_refused();
     printf("of the call that names files refused %ld times\n", unnamed);
     return wrong || unnamed <= 0;

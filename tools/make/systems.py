@@ -216,7 +216,7 @@ def linked_wasm(objects, exports, made, room):
 def web(room):
     """Returns the files of WebAssembly: the module, the JavaScript that a page and Node share, and the command for Node."""
     objects = compiled("wasm", ["heap.ll", "wasm_heap.c", "wasm_guard.c"], room)
-    module = linked_wasm(objects, ("rp_answer", "rp_answer_wide", "rp_files", "malloc", "free"), f"{room}/rp.wasm", room)
+    module = linked_wasm(objects, ("rp_answer", "rp_answer_wide", "rp_files", "rp_panel", "malloc", "free"), f"{room}/rp.wasm", room)
     commands = {it: source for name in ("rp", "rp-wide") for it, source in ((name, f"{SOURCES}/rp.sh"), (f"{name}.mjs", f"{SOURCES}/rp.mjs"))}
     return {"rp.wasm": module, "rp.js": f"{SOURCES}/rp.js", **commands}
 

@@ -1,5 +1,5 @@
-//! The suite as a library that programs in C call: one function over files in memory for each edition of the program, and
-//! one that tells which files the words name. They hand their arguments to the library crate of the same calls, and state
+//! The suite as a library that programs in C call: one function over files in memory for each edition of the program, one
+//! for panels, and one that tells which files the words name. They hand their arguments to the library crate of the same calls, and state
 //! those contracts again.
 #![tactic(auto)]
 
@@ -8,9 +8,12 @@ ghost use Rattle.rp_frame.specs.Frames.{frame_of};
 ghost use Rattle.rp_call.specs.CallEndings.{EndsSo, EndsSoBy, IsDecided, ending_number};
 ghost use Rattle.rp_call.specs.NamedFiles.{NamesSo};
 ghost use Rattle.rp_call.specs.declared.ending.Ending.{Ending};
+ghost use Rattle.rp_panel_call.specs.PanelEndings as Panels;
+ghost use Rattle.rp_panel_call.specs.declared.ending.Ending as PanelCall;
 ghost use Rattle.rp_run_wide.specs.Filling.{as_filled};
 
 use rp_call::{answer, answer_edition, name_files};
+use rp_panel_call::answer_panel;
 use rp_run_wide::Filled;
 use std::alloc::Global;
 
@@ -65,6 +68,38 @@ pub extern "C" fn rp_answer_wide(
         × IsDecided (frame_of words.now names.now sizes.now bytes.now) ending }
 {
     answer_edition::<Filled>(
+        alloc,
+        words,
+        names,
+        sizes,
+        bytes,
+        output,
+        told,
+        output_length,
+        told_length,
+    )
+    .number()
+}
+
+/// The answer to the words of `rp-panel` over a long file in memory, as `rp.h` tells; the status is the result.
+#[unsafe(no_mangle)]
+pub extern "C" fn rp_panel(
+    alloc: Global,
+    words: &[u8],
+    names: &[u8],
+    sizes: &[u64],
+    bytes: &[u8],
+    output: &mut [u8],
+    told: &mut [u8],
+    output_length: &mut u64,
+    told_length: &mut u64,
+) -> i32
+    ensures { (ending : PanelCall.Ending) × (result ≡ pos (Panels.ending_number ending))
+        × Panels.EndsSo (frame_of words.now names.now sizes.now bytes.now) ending
+        output.old output.new output_length.new told.old told.new told_length.new
+        × Panels.IsDecided (frame_of words.now names.now sizes.now bytes.now) ending }
+{
+    answer_panel(
         alloc,
         words,
         names,

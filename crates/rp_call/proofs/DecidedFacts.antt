@@ -12,8 +12,9 @@ use Rattle.rp_run.specs.Answers.{IsAccepted, IsRefused, RefusesWith}
 use Rattle.rp_run.specs.Contents.{Contents, Denotes}
 use Rattle.rp_run.specs.Endings.{IsEnd}
 use Rattle.rp_frame.specs.Frames.{Frame, Request, request_in}
+use Rattle.rp_frame.specs.Given.{AreGiven, IsFirstMissing}
 use Rattle.rp_frame.specs.Handed.{IsText}
-use Rattle.rp_call.specs.CallEndings.{AreGiven, Asks, HasTooMany, IsDecided, IsEndingOf, IsFirstMissing, IsRunOf, IsStatusOf, Requests, asked_of, given_files}
+use Rattle.rp_call.specs.CallEndings.{Asks, HasTooMany, IsDecided, IsEndingOf, IsRunOf, IsStatusOf, Requests, asked_of, given_files}
 use Rattle.rp_call.specs.declared.ending.Ending.{Ending}
 use Rattle.rp_call.specs.declared.ending.Ending.TheVariants.{Ran, NoText, Malformed}
 

@@ -9,11 +9,12 @@ use Rattle.rp_answers.specs.declared.status.Status.{Status}
 use Rattle.rp_answers.specs.declared.status.Status.TheVariants.{Done, Rejected, Usage, ReadFault, Refused, WriteFault, NoMemory}
 use Rattle.rp_run.specs.Answers.{AnswersLineBy, AreContents, RefusesWith}
 use Rattle.rp_frame.specs.Frames.{Frame, Request, request_in}
+use Rattle.rp_frame.specs.Given.{AreGiven, IsFirstMissing}
 use Rattle.rp_frame.specs.Handed.{Holds, IsText}
 use Rattle.rp_frame.specs.declared.handed.Handed.{Handed}
 use Rattle.rp_outside.specs.NamedFile.{named_bytes}
 use Rattle.std.specs.Borrow.{Bor}
-use Rattle.rp_call.specs.CallEndings.{AreGiven, IsEnded, IsEndingOf, IsFirstMissing, IsRunOf, IsStatusOf, Requests, asked_of}
+use Rattle.rp_call.specs.CallEndings.{IsEnded, IsEndingOf, IsRunOf, IsStatusOf, Requests, asked_of}
 use Rattle.rp_call.specs.RunEndings.{EndsAsRun, EndsFor, IsRun, TellsUnread, known_in}
 use Rattle.rp_call.specs.declared.asking.Texts.{Texts}
 use Rattle.rp_call.specs.declared.ending.Ending.{Ending}

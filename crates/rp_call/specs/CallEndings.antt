@@ -1,8 +1,8 @@
 -- How a call over files in memory ends, by an edition of the program, which prints so. The frame alone decides it, but
 -- for want of memory (this program's own statuses).
-use Rattle.std.specs.Prelude.{◌≡◌, ◌≢◌, ◌⊎◌, ◌<◌, ◌≤◌, ℕ, List, [], ◌∷◌, Option, Some, None, codes, length}
-use Rattle.std.specs.Prelude.{slice_index_or}
+use Rattle.std.specs.Prelude.{◌≡◌, ◌⊎◌, ◌<◌, ◌≤◌, ℕ, List, [], ◌∷◌, Option, Some, None, codes, length}
 use Rattle.rp_frame.specs.Frames.{Frame, Request, request_in}
+use Rattle.rp_frame.specs.Given.{AreGiven, IsFirstMissing}
 use Rattle.rp_frame.specs.Handed.{IsText}
 use Rattle.rp_frame.specs.Rooms.{filled}
 use Rattle.rp_outside.specs.Files.{bytes_under}
@@ -26,16 +26,6 @@ asked_of request = denoted_line (codes "rp" ∷ request.words)
 -- the bytes of each file that is given
 abbrev pub given_files : Request → Files
 given_files request = bytes_under request.files
-
--- a file is given for each of these names
-abbrev pub AreGiven : List (List ℕ × List ℕ) → List (List ℕ) → Type 0
-AreGiven files names = (k : ℕ) → k < length names → bytes_under files (slice_index_or names k []) ≢ None
-
--- the k-th of these names, from 0, is the first of which no file is given
-pub record IsFirstMissing (files : List (List ℕ × List ℕ)) (names : List (List ℕ)) (k : ℕ) : Type 0 where
-  pub within : k < length names
-  pub missing : bytes_under files (slice_index_or names k []) ≡ None
-  pub before : (j : ℕ) → j < k → bytes_under files (slice_index_or names j []) ≢ None
 
 -- the line of a request, of which no more files are given than it names
 pub record Asks (request : Request) (line : Line) : Type 0 where

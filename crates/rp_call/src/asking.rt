@@ -6,11 +6,10 @@ ghost use Rattle.rp_command_line.specs.Words.{line_in};
 ghost use Rattle.rp_call.specs.RunEndings.{EndsAsRun, EndsFor, TellsUnread, known_in};
 
 use crate::ending::Ending;
-use crate::files::first_missing;
 use crate::running::run_over;
 use rp_answers::Edition;
 use rp_command_line::{Line, read_line};
-use rp_frame::Handed;
+use rp_frame::{Handed, first_missing};
 use rp_num::NoMemory;
 use rp_outside::MemFile;
 use rp_run::Status;

@@ -5,7 +5,6 @@
 mod asking;
 mod calling;
 mod ending;
-mod files;
 mod naming;
 mod running;
 

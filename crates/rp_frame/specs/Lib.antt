@@ -1,4 +1,5 @@
 pub mod Frames
+pub mod Given
 pub mod Handed
 pub mod Rooms
 pub mod TextSink

@@ -1,5 +1,7 @@
--- Which columns of a long file are used, and for what: that of the ids, those of a table, and those whose texts are kept.
-use Rattle.std.specs.Prelude.{ℕ, Bool, false, not, ◌&&◌, ◌==◌, List, length, map}
+-- Which columns of a long file are used, and for what: that of the ids, those of a table, and those whose texts are kept;
+-- and which are left out.
+use Rattle.std.specs.Prelude.{ℕ, Bool, false, not, ◌&&◌, ◌||◌, ◌==◌, List, length, map}
+use Rattle.std.specs.List.{list_any}
 use Rattle.std.specs.Option.{option_map_or}
 use Rattle.rp_forms.specs.Texts.{text_at}
 use Rattle.rp_forms.specs.Columns.{role_of, takes}
@@ -30,3 +32,12 @@ uses_of id kept headers = record {
   table = table_columns headers (column_named id headers);
   kept = map (λ name. column_named name headers) kept;
 }
+
+-- whether a column with that header is used
+abbrev pub is_used : Uses → List ℕ → ℕ → Bool
+is_used uses header c = (c == uses.id) || (is_of_table header || list_any (λ k. k == c) uses.kept)
+
+-- the names of the columns with these headers that are used for nothing, in order
+abbrev pub left_out_of : Uses → List (List ℕ) → List (List ℕ)
+left_out_of uses headers =
+    map (text_at headers) (places_below (length headers) (λ c. not (is_used uses (text_at headers c) c)))

@@ -1,5 +1,6 @@
 -- What a long file denotes: households, each with its id, its records and its table or the fault of that; the records
--- that are refused for their ids; or the first fault of the file (a format of this project's own).
+-- that are refused for their ids; the columns that are left out; or the first fault of the file (a format of this
+-- project's own).
 use Rattle.std.specs.Prelude.{◌≡◌, ◌≢◌, ℕ, List, [], map, slice_index_or, Option, None, Some, Result, Ok, Err, IfErr}
 use Rattle.rp_table.specs.Tables.{Observations}
 use Rattle.rp_forms.specs.Texts.{text_at, trimmed}
@@ -11,7 +12,7 @@ use Rattle.rp_sheet.specs.declared.fault.TableFault.{TableFault}
 use Rattle.rp_sheet.specs.declared.fault.TableFault.TheVariants as fault
 use Rattle.rp_text.specs.Denotation.{denoted_table}
 use Rattle.rp_long.specs.InLongFile.{denoted_in_long_file}
-use Rattle.rp_long.specs.LongColumns.{Uses, uses_of}
+use Rattle.rp_long.specs.LongColumns.{Uses, left_out_of, uses_of}
 use Rattle.rp_long.specs.LongFaults.{first_fault}
 use Rattle.rp_long.specs.Ids.{ids_below, records_with, unnamed_below}
 use Rattle.rp_long.specs.declared.fault.LongFault.{LongFault}
@@ -26,10 +27,12 @@ pub record Household : Type 0 where
   pub kept : List (List ℕ)
   pub table : Result Observations TableFault
 
--- the households in the order of their first records, and the records that are refused for their ids, in order
+-- the households in the order of their first records, the records that are refused for their ids, in order, and the names
+-- of the columns that are left out, in order
 pub record Panel : Type 0 where
   pub households : List Household
   pub unnamed : List Unnamed
+  pub left_out : List (List ℕ)
 
 -- the text that stands for the id of a record
 abbrev pub id_text : ℕ → List (List (List ℕ)) → ℕ → List ℕ
@@ -54,6 +57,7 @@ abbrev pub panel_with : Uses → List (List (List ℕ)) → Panel
 panel_with uses records = record {
   households = map (household_of uses records) (ids_below (id_text uses.id records) (rows_in records));
   unnamed = unnamed_below (id_text uses.id records) (rows_in records);
+  left_out = left_out_of uses (headers_of records);
 }
 
 -- a panel, where there is no fault

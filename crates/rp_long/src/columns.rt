@@ -1,18 +1,19 @@
-//! Which columns of a long file are used, and for what.
+//! Which columns of a long file are used, and for what, and which are left out.
 ghost use Rattle.std.specs.Prelude.{◌≡◌, ◌==◌, ◌&&◌, ◌<◌, None, IfOk, length, map, not};
+ghost use Rattle.std.specs.List.{list_any};
 ghost use Rattle.indexmap.specs.IndexSet.{keys};
 ghost use Rattle.rp_num.specs.Below.{first_of};
 ghost use Rattle.rp_forms.specs.Texts.{place_of, text_at};
 ghost use Rattle.rp_sheet.specs.ChoiceCounts.{column_named};
 ghost use Rattle.rp_sheet.specs.Headers.{headers_of};
 ghost use Rattle.rp_long.specs.LongColumns as Columns;
-ghost use Rattle.rp_long.specs.LongColumns.{is_of_table, uses_of};
+ghost use Rattle.rp_long.specs.LongColumns.{is_of_table, is_used, left_out_of, uses_of};
 ghost use Rattle.rp_long.specs.LongFaults.{RefusedFor, columns_fault, kept_fault};
 
 use crate::LongFault;
 use crate::headers::read_headers;
 use indexmap::IndexSet;
-use rp_forms::{Form, Marks, number_of, role_of};
+use rp_forms::{Form, Marks, number_of, role_of, trimmed};
 use rp_num::NoMemory;
 use rp_sheet::Records;
 use std::alloc::Global;
@@ -59,6 +60,40 @@ impl LongColumns {
     {
         self.kept.as_slice()
     }
+
+    /// The names of the columns of records that are used for nothing, in order.
+    pub(crate) fn left_out<'a>(
+        &self,
+        alloc: Global,
+        records: &'a Records,
+    ) -> Result<Vec<&'a [u8]>, NoMemory>
+        requires { 0 < length records.now }
+        ensures { IfOk result (λ names. map (λ name. name.now) names.items
+            ≡ left_out_of self.now (headers_of records.now)) }
+    {
+        let mut names = Vec::new(alloc);
+        for c in 0..records.headers() {
+            let header = trimmed(records.header(c));
+            if !self.is_used(header, c) {
+                names.push(header)?;
+            }
+        }
+        Ok(names)
+    }
+
+    /// Whether a column with that header is used.
+    fn is_used(&self, header: &[u8], c: usize) -> bool
+        ensures { result ≡ is_used self.now header.now c }
+    {
+        c == self.id || is_of_table(header) || is_among(self.kept.as_slice(), c)
+    }
+}
+
+/// Whether a column is among some.
+fn is_among(columns: &[usize], c: usize) -> bool
+    ensures { result ≡ list_any (λ k. k == c) columns.now }
+{
+    columns.contains(&c)
 }
 
 /// The columns of a long file in which the ids have that name and the texts under those names are kept.

@@ -1,5 +1,5 @@
 //! The households of a long file.
-ghost use Rattle.std.specs.Prelude.{◌≡◌, ◌+◌, ◌<◌, Ok, IfOk, length, slice_index_or};
+ghost use Rattle.std.specs.Prelude.{◌≡◌, ◌+◌, ◌<◌, Ok, IfOk, length, map, slice_index_or};
 ghost use Rattle.rp_sheet.specs.Refusals.{RefusedAs};
 ghost use Rattle.rp_sheet.specs.Fields.{row_at, rows_in};
 ghost use Rattle.rp_sheet.specs.Records.{selected_fields};
@@ -104,6 +104,13 @@ impl<'a> Households<'a> {
             Ok(table) => Ok(table),
             Err(fault) => Err(in_long_file(rows, columns, fault)),
         }
+    }
+
+    /// The names of the columns that are left out, in order.
+    pub fn left_out(&self, alloc: Global) -> Result<Vec<&'a [u8]>, NoMemory>
+        ensures { IfOk result (λ names. map (λ name. name.now) names.items ≡ self.now.left_out) }
+    {
+        self.columns.left_out(alloc, self.records)
     }
 
     /// The records that are refused for their ids, in order.

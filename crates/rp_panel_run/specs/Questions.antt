@@ -1,11 +1,15 @@
 -- What the words of the program ask: the long file, the name of its column of ids, the names of the columns whose texts are
--- kept, and what is asked of each household beside the verdicts.
+-- kept, what is asked of each household beside the verdicts, and how the homothetic test is answered.
 use Rattle.std.specs.Prelude.{ℕ, ◌-◌, ◌^◌, Bool, true, false, not, ◌==◌, if◌then◌else◌, List, [], ◌∷◌, ◌++◌}
 use Rattle.std.specs.Prelude.{length, drop, codes, Option, None, Some, option_and_then, option_map}
 use Rattle.std.specs.Str.{bytes_eq}
 use Rattle.rp_limits.specs.declared.command_line.TheConstants.{MOST_DRAWS}
-use Rattle.rp_panel_run.specs.Numbers.{number_in}
+use Rattle.rp_evidence.specs.declared.homothetic.Homothetic.{Homothetic}
+use Rattle.rp_table.specs.Tables.{Observations}
+use Rattle.rp_rows.specs.Verdicts.{given_as_stated}
 use Rattle.rp_rows.specs.declared.asked.Asked.{Asked}
+use Rattle.rp_rows_wide.specs.FilledTest.{IsGivenFilled}
+use Rattle.rp_panel_run.specs.Numbers.{number_in}
 use Rattle.rp_panel_run.specs.declared.question.Awaited.{Awaited}
 use Rattle.rp_panel_run.specs.declared.question.Awaited.TheVariants as wait
 use Rattle.rp_panel_run.specs.declared.question.Named.{Named}
@@ -18,13 +22,23 @@ pub record Asking : Type 0 where
   pub id : List ℕ
   pub kept : List (List ℕ)
   pub pump : Bool
+  pub wide : Bool
   pub draws : ℕ
   pub seed : ℕ
   pub awaited : Awaited
 
 -- before the first word after the program's name
 abbrev pub nothing_read : Asking
-nothing_read = record { file = []; id = []; kept = []; pump = false; draws = 0; seed = 0; awaited = wait.File }
+nothing_read = record {
+  file = [];
+  id = [];
+  kept = [];
+  pump = false;
+  wide = false;
+  draws = 0;
+  seed = 0;
+  awaited = wait.File;
+}
 
 -- a text that may be a file's name: not empty, and not begun as an option is
 abbrev pub is_file_name : List ℕ → Bool
@@ -38,6 +52,7 @@ awaiting next a = record {
   id = a.id;
   kept = a.kept;
   pump = a.pump;
+  wide = a.wide;
   draws = a.draws;
   seed = a.seed;
   awaited = next;
@@ -50,6 +65,7 @@ with_file a word = record {
   id = a.id;
   kept = a.kept;
   pump = a.pump;
+  wide = a.wide;
   draws = a.draws;
   seed = a.seed;
   awaited = wait.Option;
@@ -61,6 +77,7 @@ with_id a word = record {
   id = word;
   kept = a.kept;
   pump = a.pump;
+  wide = a.wide;
   draws = a.draws;
   seed = a.seed;
   awaited = wait.Option;
@@ -72,6 +89,7 @@ with_kept a word = record {
   id = a.id;
   kept = a.kept ++ word ∷ [];
   pump = a.pump;
+  wide = a.wide;
   draws = a.draws;
   seed = a.seed;
   awaited = wait.Option;
@@ -83,6 +101,19 @@ with_pump a = record {
   id = a.id;
   kept = a.kept;
   pump = true;
+  wide = a.wide;
+  draws = a.draws;
+  seed = a.seed;
+  awaited = wait.Option;
+}
+
+abbrev pub with_wide : Asking → Asking
+with_wide a = record {
+  file = a.file;
+  id = a.id;
+  kept = a.kept;
+  pump = a.pump;
+  wide = true;
   draws = a.draws;
   seed = a.seed;
   awaited = wait.Option;
@@ -94,6 +125,7 @@ with_draws a draws = record {
   id = a.id;
   kept = a.kept;
   pump = a.pump;
+  wide = a.wide;
   draws = draws;
   seed = a.seed;
   awaited = wait.Seed;
@@ -105,6 +137,7 @@ with_seed a seed = record {
   id = a.id;
   kept = a.kept;
   pump = a.pump;
+  wide = a.wide;
   draws = a.draws;
   seed = seed;
   awaited = wait.Option;
@@ -114,6 +147,7 @@ with_seed a seed = record {
 abbrev pub named_option : List ℕ → Named
 named_option word =
     if bytes_eq word (codes "--pump") then named.Pump
+    else if bytes_eq word (codes "--wide") then named.Wide
     else if bytes_eq word (codes "--id") then named.Id
     else if bytes_eq word (codes "--keep") then named.Keep
     else if bytes_eq word (codes "--power") then named.Power
@@ -122,6 +156,7 @@ named_option word =
 -- with an option, each of which but `--keep` stands once
 unfoldable pub option_taken : Asking → Named → Option Asking
 option_taken a named.Pump = if a.pump then None else Some (with_pump a)
+option_taken a named.Wide = if a.wide then None else Some (with_wide a)
 option_taken a named.Id = if length a.id == 0 then Some (awaiting wait.Id a) else None
 option_taken a named.Keep = Some (awaiting wait.Kept a)
 option_taken a named.Power = if a.draws == 0 then Some (awaiting wait.Draws a) else None
@@ -168,6 +203,15 @@ asking_in words = option_and_then where_whole (all_taken nothing_read (drop 1 wo
 -- the name of the column of ids
 abbrev pub id_name : Asking → List ℕ
 id_name a = if length a.id == 0 then codes "household" else a.id
+
+-- the names of the files that are asked for, in the order of the words
+abbrev pub files_of : Asking → List (List ℕ)
+files_of a = a.file ∷ []
+
+-- how the homothetic test is answered: with what else is found where it is withheld, or as it stands
+abbrev pub given_by : Bool → Observations → Homothetic → Type 0
+given_by true = IsGivenFilled
+given_by false = given_as_stated
 
 -- what is asked of each household beside the verdicts
 abbrev pub more_asked : Asking → Asked

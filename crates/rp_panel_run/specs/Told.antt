@@ -1,7 +1,8 @@
--- The line that refuses a long file, and what known bytes gain from a text that a sink may fail to take whole (this
+-- What is told on standard error, and what known bytes gain from a text that a sink may fail to take whole (this
 -- program's own texts).
 use Rattle.std.specs.Prelude.{ℕ, ◌⊎◌, List, [], ◌∷◌, ◌++◌, codes, Option}
 use Rattle.std.specs.Fmt.{decimal}
+use Rattle.std.specs.List.{flat_map}
 use Rattle.std.specs.Option.{option_map_or}
 use Rattle.rp_outside.specs.Faults.{HasRisen}
 use Rattle.rp_outside.specs.Known.{Grows, GrowsByPrefix}
@@ -30,6 +31,36 @@ long_fault_text (long_fault.NoKeptColumn number) = codes "NoKeptColumn name " ++
 abbrev pub file_line : List ℕ → List ℕ → List ℕ
 file_line file text = codes "rp-panel: " ++ file ++ codes ": " ++ text ++ 10 ∷ []
 
+-- the line where the file of that name could not be read
+abbrev pub unread_line : List ℕ → List ℕ
+unread_line file = file_line file (codes "read failed")
+
+-- the line for a column that is left out of the table, and those for several
+abbrev pub left_out_line : List ℕ → List ℕ
+left_out_line column = codes "rp-panel: column " ++ column ++ codes " is left out" ++ 10 ∷ []
+
+abbrev pub left_out_lines : List (List ℕ) → List ℕ
+left_out_lines columns = flat_map left_out_line columns
+
+-- the line where the words are none that the program takes
+abbrev pub usage_line : List ℕ
+usage_line =
+    codes "usage: rp-panel LONG [--id NAME] [--keep NAME].. [--pump] [--power DRAWS SEED] [--wide]" ++ 10 ∷ []
+
+-- the line where the table could not be written whole, and where memory ran out
+abbrev pub write_line : List ℕ
+write_line = codes "rp-panel: write failed" ++ 10 ∷ []
+
+abbrev pub memory_line : List ℕ
+memory_line = codes "rp-panel: out of memory" ++ 10 ∷ []
+
 -- known bytes grow by all of the text, or by some of it from its front where the count of faults has risen
 abbrev pub Gains : Option (List ℕ) → Option (List ℕ) → ℕ → ℕ → List ℕ → Type 0
 Gains old new before after text = Grows old new text ⊎ (GrowsByPrefix old new text × HasRisen before after)
+
+-- the same of one text and then another, each as far as it was taken
+pub record GainsBoth (old new : Option (List ℕ)) (before after : ℕ) (first second : List ℕ) : Type 0 where
+  pub between : Option (List ℕ)
+  pub count : ℕ
+  pub gains_first : Gains old between before count first
+  pub gains_second : Gains between new count after second

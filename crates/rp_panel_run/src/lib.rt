@@ -11,3 +11,5 @@ mod words;
 
 pub use running::run_panel;
 pub use status::Status;
+pub use telling::unread_line;
+pub use words::files_of_words;

@@ -3,7 +3,7 @@ ghost use Rattle.std.specs.Prelude.{◌≡◌, ◌≤◌, ◌==◌, Some, None, 
 ghost use Rattle.std.specs.Prelude.{option_map};
 ghost use Rattle.rp_limits.specs.declared.command_line.TheConstants.{MOST_DRAWS};
 ghost use Rattle.rp_panel_run.specs.Questions as Questions;
-ghost use Rattle.rp_panel_run.specs.Questions.{draws_taken, id_name, is_file_name, is_whole};
+ghost use Rattle.rp_panel_run.specs.Questions.{draws_taken, files_of, id_name, is_file_name, is_whole};
 ghost use Rattle.rp_panel_run.specs.Questions.{more_asked, named_option, nothing_read};
 ghost use Rattle.rp_panel_run.specs.Questions.{option_taken, taken};
 
@@ -35,6 +35,7 @@ pub enum Awaited {
 #[derive(Clone, Copy, Debug, PartialEq, Eq)]
 pub enum Named {
     Pump,
+    Wide,
     Id,
     Keep,
     Power,
@@ -48,6 +49,7 @@ pub(crate) struct Question<'a> {
     id: &'a str,
     kept: Vec<&'a [u8]>,
     pump: bool,
+    wide: bool,
     draws: u32,
     seed: u64,
     awaited: Awaited,
@@ -64,6 +66,7 @@ impl<'a> Model for Question<'a> {
       id = q.id.now;
       kept = map (λ name. name.now) q.kept.items;
       pump = q.pump;
+      wide = q.wide;
       draws = q.draws;
       seed = q.seed;
       awaited = q.awaited;
@@ -80,6 +83,7 @@ impl<'a> Question<'a> {
             id: "",
             kept: Vec::new(alloc),
             pump: false,
+            wide: false,
             draws: 0,
             seed: 0,
             awaited: Awaited::File,
@@ -126,6 +130,7 @@ impl<'a> Question<'a> {
     {
         match option {
             Named::Pump => self.take_pump(),
+            Named::Wide => self.take_wide(),
             Named::Id => self.await_id(),
             Named::Keep => {
                 self.awaited = Awaited::Kept;
@@ -145,6 +150,19 @@ impl<'a> Question<'a> {
             return false;
         }
         self.pump = true;
+        self.awaited = Awaited::Option;
+        true
+    }
+
+    /// Takes that more is to be found where the homothetic test is withheld.
+    fn take_wide(&mut self) -> bool
+        ensures { (if result then Some self.new else None)
+            ≡ (if self.old.wide then None else Some (Questions.with_wide self.old)) }
+    {
+        if self.wide {
+            return false;
+        }
+        self.wide = true;
         self.awaited = Awaited::Option;
         true
     }
@@ -231,6 +249,15 @@ impl<'a> Question<'a> {
         self.file
     }
 
+    /// The names of the files that are asked for, in the order of the words.
+    pub(crate) fn files(&self, alloc: Global) -> Result<Vec<&'a str>, NoMemory>
+        ensures { IfOk result (λ names. map (λ name. name.now) names.items ≡ files_of self.now) }
+    {
+        let mut names = Vec::new(alloc);
+        names.push(self.file)?;
+        Ok(names)
+    }
+
     /// The name of the column of ids.
     pub(crate) fn id_name(&self) -> &[u8]
         ensures { result.now ≡ id_name self.now }
@@ -247,6 +274,13 @@ impl<'a> Question<'a> {
         ensures { map (λ name. name.now) result.now ≡ self.now.kept }
     {
         self.kept.as_slice()
+    }
+
+    /// Whether more is to be found where the homothetic test is withheld.
+    pub(crate) fn is_wide(&self) -> bool
+        ensures { result ≡ self.now.wide }
+    {
+        self.wide
     }
 
     /// What is asked of each household beside the verdicts.
@@ -279,6 +313,9 @@ fn named_option(word: &str) -> Named
 {
     if word == "--pump" {
         return Named::Pump;
+    }
+    if word == "--wide" {
+        return Named::Wide;
     }
     if word == "--id" {
         return Named::Id;

@@ -1,13 +1,14 @@
 //! A call of the program: its words, the table of the long file that they name, and what is written and told.
-ghost use Rattle.std.specs.Prelude.{◌≡◌, ◌≢◌, ◌⊎◌, ℕ, List, None, Some, map, string_bytes};
+ghost use Rattle.std.specs.Prelude.{◌≡◌, ◌≢◌, ◌⊎◌, ◌≤◌, ℕ, List, None, Some, map, string_bytes};
 ghost use Rattle.rp_outside.specs.Faults.{EachStays, HasRisen};
 ghost use Rattle.rp_outside.specs.Known.{Grows, GrowsByPrefix, Stays};
 ghost use Rattle.rp_panel_run.specs.Endings.{IsRefusedKnown, IsTextOfKnown};
 ghost use Rattle.rp_panel_run.specs.Questions.{Asking, asking_in};
-ghost use Rattle.rp_panel_run.specs.Told.{Gains};
+ghost use Rattle.rp_panel_run.specs.Told.{Gains, GainsBoth, memory_line, unread_line, usage_line};
+ghost use Rattle.rp_panel_run.specs.Told.{write_line};
 
 use crate::Status;
-use crate::answer::{Cause, answer};
+use crate::answer::{Answer, Cause, answer_file};
 use crate::telling::tell;
 use crate::words::read_words;
 use rp_outside::{Desk, Sink, pour};
@@ -15,10 +16,11 @@ use std::alloc::Global;
 
 /// What is told where the words are none that the program takes.
 const USAGE: &[u8] =
-    b"usage: rp-panel LONG [--id NAME] [--keep NAME].. [--pump] [--power DRAWS SEED]\n";
+    b"usage: rp-panel LONG [--id NAME] [--keep NAME].. [--pump] [--power DRAWS SEED] [--wide]\n";
 
 /// Answers the words of a command line over the files of a desk: a row for each household of the long file that they
-/// name. The table goes to `out`, and the reason why there is none to `err`, whose failures change no status.
+/// name. The table goes to `out`. What goes to `err`, whose failures change no status, is a line for each column that is
+/// left out, before the table is written, or the reason why there is none.
 pub fn run_panel<D: Desk, O: Sink, E: Sink>(
     alloc: Global,
     words: &Vec<String>,
@@ -27,34 +29,47 @@ pub fn run_panel<D: Desk, O: Sink, E: Sink>(
     err: &mut E,
 ) -> Status
     // The words.
-    ensures usage { result ≡ Status.Usage → asking_in (map string_bytes words.now.items) ≡ None }
+    ensures usage { result ≡ Status.Usage → (asking_in (map string_bytes words.now.items) ≡ None)
+        × Gains (E.written err.old) (E.written err.new)
+        (E.faults err.old) (E.faults err.new) usage_line }
     ensures asked { result ≢ Status.Usage → result ≢ Status.NoMemory
         → (a : Asking) × (asking_in (map string_bytes words.now.items) ≡ Some a) }
 
     // The table.
-    ensures written { result ≡ Status.Done → (a : Asking) × (text : List ℕ)
+    ensures written { result ≡ Status.Done → (a : Asking) × (text : List ℕ) × (told : List ℕ)
         × (asking_in (map string_bytes words.now.items) ≡ Some a)
-        × IsTextOfKnown a (D.bytes desk.old a.file) text
-        × Grows (O.written out.old) (O.written out.new) text }
-    ensures cut_short { result ≡ Status.WriteFault → (a : Asking) × (text : List ℕ)
+        × IsTextOfKnown a (D.bytes desk.old) text told
+        × Grows (O.written out.old) (O.written out.new) text
+        × Gains (E.written err.old) (E.written err.new)
+        (E.faults err.old) (E.faults err.new) told }
+    ensures cut_short { result ≡ Status.WriteFault
+        → (a : Asking) × (text : List ℕ) × (told : List ℕ)
         × (asking_in (map string_bytes words.now.items) ≡ Some a)
-        × IsTextOfKnown a (D.bytes desk.old a.file) text
+        × IsTextOfKnown a (D.bytes desk.old) text told
         × GrowsByPrefix (O.written out.old) (O.written out.new) text
-        × HasRisen (O.faults out.old) (O.faults out.new) }
+        × HasRisen (O.faults out.old) (O.faults out.new)
+        × GainsBoth (E.written err.old) (E.written err.new)
+        (E.faults err.old) (E.faults err.new) told write_line }
     ensures silent { result ≢ Status.Done → result ≢ Status.WriteFault
         → Stays (O.written out.old) (O.written out.new) }
 
     // Why there is none.
     ensures refused { result ≡ Status.Refused → (a : Asking) × (line : List ℕ)
         × (asking_in (map string_bytes words.now.items) ≡ Some a)
-        × IsRefusedKnown a (D.bytes desk.old a.file) line
-        × Gains (E.written err.old) (E.written err.new) (E.faults err.old) (E.faults err.new) line }
+        × IsRefusedKnown a (D.bytes desk.old) line
+        × Gains (E.written err.old) (E.written err.new)
+        (E.faults err.old) (E.faults err.new) line }
     ensures read_fault { result ≡ Status.ReadFault → (a : Asking)
         × (asking_in (map string_bytes words.now.items) ≡ Some a)
-        × HasRisen (D.faults desk.old a.file) (D.faults desk.new a.file) }
+        × HasRisen (D.faults desk.old a.file) (D.faults desk.new a.file)
+        × Gains (E.written err.old) (E.written err.new)
+        (E.faults err.old) (E.faults err.new) (unread_line a.file) }
+    ensures no_memory { result ≡ Status.NoMemory → Gains (E.written err.old) (E.written err.new)
+        (E.faults err.old) (E.faults err.new) memory_line }
 
     // What stays.
     ensures bytes_stay { EachStays (D.bytes desk.old) (D.bytes desk.new) }
+    ensures err_counts { E.faults err.old ≤ E.faults err.new }
 {
     let Ok(asked) = read_words(alloc, words.as_slice()) else {
         tell(err, b"rp-panel: out of memory\n");
@@ -64,10 +79,10 @@ pub fn run_panel<D: Desk, O: Sink, E: Sink>(
         tell(err, USAGE);
         return Status::Usage;
     };
-    match answer(alloc, desk, &question) {
-        Ok(text) => finish(text.as_slice(), out, err),
-        Err(Cause::Read) => {
-            tell(err, b"rp-panel: read failed\n");
+    match answer_file(alloc, desk, &question) {
+        Ok(answer) => finish(&answer, out, err),
+        Err(Cause::Read(line)) => {
+            tell(err, line.as_slice());
             Status::ReadFault
         }
         Err(Cause::Refused(line)) => {
@@ -81,15 +96,22 @@ pub fn run_panel<D: Desk, O: Sink, E: Sink>(
     }
 }
 
-/// Writes the whole text, or tells that it could not be written.
-fn finish<O: Sink, E: Sink>(text: &[u8], out: &mut O, err: &mut E) -> Status
+/// Tells what is told of a table and writes it whole, or tells that it could not be written.
+fn finish<O: Sink, E: Sink>(answer: &Answer, out: &mut O, err: &mut E) -> Status
     ensures either { (result ≡ Status.Done) ⊎ (result ≡ Status.WriteFault) }
-    ensures whole { result ≡ Status.Done → Grows (O.written out.old) (O.written out.new) text.now }
+    ensures whole { result ≡ Status.Done
+        → Grows (O.written out.old) (O.written out.new) answer.now.text.items
+        × Gains (E.written err.old) (E.written err.new)
+        (E.faults err.old) (E.faults err.new) answer.now.told.items }
     ensures part { result ≡ Status.WriteFault
-        → GrowsByPrefix (O.written out.old) (O.written out.new) text.now
-        × HasRisen (O.faults out.old) (O.faults out.new) }
+        → GrowsByPrefix (O.written out.old) (O.written out.new) answer.now.text.items
+        × HasRisen (O.faults out.old) (O.faults out.new)
+        × GainsBoth (E.written err.old) (E.written err.new)
+        (E.faults err.old) (E.faults err.new) answer.now.told.items write_line }
+    ensures err_counts { E.faults err.old ≤ E.faults err.new }
 {
-    match pour(out, text) {
+    tell(err, answer.told.as_slice());
+    match pour(out, answer.text.as_slice()) {
         Ok(()) => Status::Done,
         Err(_) => {
             tell(err, b"rp-panel: write failed\n");

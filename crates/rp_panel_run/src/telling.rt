@@ -1,6 +1,8 @@
 //! What is told on standard error.
-ghost use Rattle.std.specs.Prelude.{◌≡◌, ◌≤◌, [], ◌∷◌, ◌++◌, IfOk, OnOk};
-ghost use Rattle.rp_panel_run.specs.Told.{Gains, file_line, long_fault_text, place_text, told_fault};
+ghost use Rattle.std.specs.Prelude.{◌≡◌, ◌≤◌, [], ◌∷◌, ◌++◌, IfOk, OnOk, map};
+ghost use Rattle.rp_panel_run.specs.Told as Told;
+ghost use Rattle.rp_panel_run.specs.Told.{Gains, file_line, left_out_line, long_fault_text, place_text};
+ghost use Rattle.rp_panel_run.specs.Told.{told_fault};
 
 use rp_long::LongFault;
 use rp_num::NoMemory;
@@ -30,6 +32,35 @@ pub(crate) fn line_about(alloc: Global, file: &str, text: &[u8]) -> Result<Vec<u
     line.extend_from_slice(b": ")?;
     push_line(&mut line, text)?;
     Ok(line)
+}
+
+/// The line where the file of that name could not be read.
+pub fn unread_line(alloc: Global, file: &str) -> Result<Vec<u8>, NoMemory>
+    ensures { IfOk result (λ line. line.items ≡ Told.unread_line file.now) }
+{
+    line_about(alloc, file, b"read failed")
+}
+
+/// The lines for columns that are left out of the table.
+pub(crate) fn left_out_lines(alloc: Global, columns: &[&[u8]]) -> Result<Vec<u8>, NoMemory>
+    ensures { IfOk result (λ lines. lines.items
+        ≡ Told.left_out_lines (map (λ column. column.now) columns.now)) }
+{
+    let mut lines = Vec::new(alloc);
+    for column in columns {
+        push_left_out(&mut lines, column)?;
+    }
+    Ok(lines)
+}
+
+/// Appends the line for a column that is left out.
+fn push_left_out(lines: &mut Vec<u8>, column: &[u8]) -> Result<(), NoMemory>
+    ensures { OnOk result (lines.new.items ≡ lines.old.items ++ left_out_line column.now) }
+{
+    lines.extend_from_slice(b"rp-panel: column ")?;
+    lines.extend_from_slice(column)?;
+    push_line(lines, b" is left out")?;
+    Ok(())
 }
 
 /// Appends a text and the end of its line.

@@ -4,7 +4,7 @@ use Rattle.std.specs.Borrow.{Bor}
 use Rattle.rp_outside.specs.NamedFile.{named_bytes}
 use Rattle.rp_command_line.specs.CommandLine.{file_at, files_of}
 use Rattle.rp_command_line.specs.Named.{named_line}
-use Rattle.rp_call.specs.CallEndings.{AreGiven, IsFirstMissing}
+use Rattle.rp_frame.specs.Given.{AreGiven, IsFirstMissing}
 use Rattle.rp_call.specs.RunEndings.{TellsUnread}
 use Rattle.rp_call.proofs.GivenFacts.{line_ends, many_ends, no_name, unread_ends}
 use Rattle.rp_call.proofs.asking.answer_line.Goals as goal

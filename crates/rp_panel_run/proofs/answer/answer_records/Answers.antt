@@ -2,9 +2,9 @@ use Rattle.std.proofs.Common.{sym, ◌∙◌}
 use Rattle.rp_panel_run.proofs.CauseLemmas.{fault_of_records, not_memory, text_of_records}
 use Rattle.rp_panel_run.proofs.answer.answer_records.Goals as goal
 
-pub returns-in_ok-write_panel-in-Ok-clause-written : goal.returns-in_ok-write_panel-in-Ok-clause-written
-returns-in_ok-write_panel-in-Ok-clause-written c =
-    text_of_records c.args.question.now c.args.records.now _ _ _ _ c.in-Ok.panel _ c.id_name.ensures c.kept.ensures c.kept-in-Ok.ensures c.more_asked.ensures c.in-Ok.ensures.denoted c.in_ok-write_panel-in-Ok.ensures
+pub returns-in_ok-answer_panel-in-Ok-clause-written : goal.returns-in_ok-answer_panel-in-Ok-clause-written
+returns-in_ok-answer_panel-in-Ok-clause-written c =
+    text_of_records c.args.question.now c.args.records.now _ _ c.in-Ok.panel _ _ c.id_name.ensures c.kept.ensures c.in-Ok.ensures.denoted c.in_ok-answer_panel-in-Ok.ensures
 
 pub returns-in-Err-2-clause-caused : goal.returns-in-Err-2-clause-caused
 returns-in-Err-2-clause-caused c =

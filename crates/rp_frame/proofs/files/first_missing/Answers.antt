@@ -3,8 +3,11 @@ use Rattle.std.proofs.lemmas.List.{get_or-map, length-map}
 use Rattle.std.specs.Borrow.{Bor}
 use Rattle.rp_outside.specs.Files.{bytes_under}
 use Rattle.rp_outside.specs.NamedFile.{named_bytes}
-use Rattle.rp_call.proofs.GivenFacts.{no_name}
-use Rattle.rp_call.proofs.files.first_missing.Goals as goal
+use Rattle.rp_frame.proofs.files.first_missing.Goals as goal
+
+-- the name past the last one
+abbrev no_name : Bor (List ℕ)
+no_name = record { ref_ptr = (0, 0); now = [] }
 
 found_at : (files : List (List ℕ × List ℕ)) (name other bytes : List ℕ) → Some bytes ≡ bytes_under files name → other ≡ name
     → bytes_under files other ≢ None

@@ -1,13 +1,13 @@
-//! Which files of a line are given.
+//! Which files are given.
 ghost use Rattle.std.specs.Prelude.{◌≡◌, IfNone, IfSome, map, option_copied};
 ghost use Rattle.rp_outside.specs.Files.{bytes_under};
 ghost use Rattle.rp_outside.specs.NamedFile.{named_bytes};
-ghost use Rattle.rp_call.specs.CallEndings.{AreGiven, IsFirstMissing};
+ghost use Rattle.rp_frame.specs.Given.{AreGiven, IsFirstMissing};
 
 use rp_outside::MemFile;
 
 /// The place of the first name of which there is no file.
-pub(crate) fn first_missing(names: &[&str], files: &[MemFile]) -> Option<usize>
+pub fn first_missing(names: &[&str], files: &[MemFile]) -> Option<usize>
     ensures missing { IfSome result (λ place. IsFirstMissing
         (map named_bytes files.now) (map (λ name. name.now) names.now) place) }
     ensures given { IfNone result (AreGiven

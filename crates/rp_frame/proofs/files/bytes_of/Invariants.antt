@@ -1,7 +1,7 @@
 use Rattle.std.proofs.Common.{◌≡◌, drop, map}
 use Rattle.rp_outside.specs.Files.{bytes_under}
 use Rattle.rp_outside.specs.NamedFile.{named_bytes}
-use Rattle.rp_call.proofs.files.bytes_of.Given as goal
+use Rattle.rp_frame.proofs.files.bytes_of.Given as goal
 
 abbrev pub invariant-loop-file : goal.invariant-loop-file
 invariant-loop-file l =

@@ -1,7 +1,7 @@
 use Rattle.std.proofs.Common.{◌≢◌, ◌<◌, ℕ, [], None, map, slice_index_or}
 use Rattle.rp_outside.specs.Files.{bytes_under}
 use Rattle.rp_outside.specs.NamedFile.{named_bytes}
-use Rattle.rp_call.proofs.files.first_missing.Given as goal
+use Rattle.rp_frame.proofs.files.first_missing.Given as goal
 
 abbrev pub invariant-loop-place : goal.invariant-loop-place
 invariant-loop-place l =

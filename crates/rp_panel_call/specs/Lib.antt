@@ -1,0 +1,2 @@
+pub mod PanelEndings
+pub mod InnerEndings
