@@ -1,0 +1,12 @@
+//! Tests of `run_panel` and of the call of panels: words, files that are refused or fail, columns that are left out, what
+//! `--wide` fills, and each ending.
+#![tactic(auto)]
+
+#[cfg(test)]
+mod calls;
+#[cfg(test)]
+mod files;
+#[cfg(test)]
+mod running;
+#[cfg(test)]
+mod words;
