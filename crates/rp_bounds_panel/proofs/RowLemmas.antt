@@ -22,15 +22,14 @@ text_more text rows last =
     ∙ ap (λ t. text ++ t) (sym (flat_map-append text_of_row rows (last ∷ []) ∙ ap (λ t. flat_map text_of_row rows ++ t) (append-nil (text_of_row last))))
 
 -- one refused record more
-pub refused_more : (writer : RowWriter) (text : List ℕ) (kept : ℕ) (unnamed : List Unnamed) (i : ℕ) (refused : Unnamed) (row : BoundRow) → i < length unnamed → refused ≡ get_or unnamed i refused → row ≡ unnamed_row kept refused
+pub refused_more : (writer : RowWriter) (text : List ℕ) (kept : ℕ) (unnamed : List Unnamed) (i : ℕ) (d : Unnamed) (row : BoundRow) → i < length unnamed → row ≡ unnamed_row kept (get_or unnamed i d)
     → HasWritten writer ((text ++ flat_map text_of_row (map (unnamed_row kept) (take i unnamed))) ++ text_of_row row)
     → HasWritten writer (text ++ flat_map text_of_row (map (unnamed_row kept) (take (i + 1) unnamed)))
-refused_more writer text kept unnamed i refused row within is made written =
-    let last : row ≡ unnamed_row kept (get_or unnamed i refused) = made ∙ ap (unnamed_row kept) is in
-    let more = ap (map (unnamed_row kept)) (take_more unnamed i refused within) ∙ map-append (unnamed_row kept) (take i unnamed) (get_or unnamed i refused ∷ []) in
+refused_more writer text kept unnamed i d row within made written =
+    let more = ap (map (unnamed_row kept)) (take_more unnamed i d within) ∙ map-append (unnamed_row kept) (take i unnamed) (get_or unnamed i d ∷ []) in
     subst (HasWritten writer)
-    (ap (λ (r : BoundRow). (text ++ flat_map text_of_row (map (unnamed_row kept) (take i unnamed))) ++ text_of_row r) last
-    ∙ text_more text (map (unnamed_row kept) (take i unnamed)) (unnamed_row kept (get_or unnamed i refused))
+    (ap (λ (r : BoundRow). (text ++ flat_map text_of_row (map (unnamed_row kept) (take i unnamed))) ++ text_of_row r) made
+    ∙ text_more text (map (unnamed_row kept) (take i unnamed)) (unnamed_row kept (get_or unnamed i d))
     ∙ ap (λ (rows : List BoundRow). text ++ flat_map text_of_row rows) (sym more)) written
 
 module _ (of_demand : GivenDemand) (of_welfare : GivenWelfare) (asked : BoundsAsked) (new : List ℕ) (panel : Panel) (before : RowWriter) where
@@ -54,15 +53,17 @@ module _ (of_demand : GivenDemand) (of_welfare : GivenWelfare) (asked : BoundsAs
   }
 
   -- all of them, and the refused records
-  pub whole_text : (kept : List (List ℕ)) (middle after : RowWriter) (text : List ℕ) → HasWritten before (header_text asked kept)
+  pub whole_text : (kept : List (List ℕ)) (count : ℕ) (unnamed : List Unnamed) (middle after : RowWriter) (text : List ℕ) → HasWritten before (header_text asked kept)
       → WritesHouseholds of_demand of_welfare asked new panel (length panel.households) before middle
-      → ((t : List ℕ) → HasWritten middle t → HasWritten after (t ++ flat_map text_of_row (map (unnamed_row (length kept)) panel.unnamed)))
-      → ((t : List ℕ) → HasWritten after t → text ≡ t) → IsBoundsText of_demand of_welfare asked new kept panel text
-  whole_text kept middle after text started households others finished = record {
+      → ((t : List ℕ) → HasWritten middle t → HasWritten after (t ++ flat_map text_of_row (map (unnamed_row count) unnamed)))
+      → ((t : List ℕ) → HasWritten after t → text ≡ t) → count ≡ length kept → unnamed ≡ panel.unnamed → IsBoundsText of_demand of_welfare asked new kept panel text
+  whole_text kept count unnamed middle after text started households others finished counted same = record {
     rows = households.rows;
     of_households = record { one_each = households.one_each; each = households.each };
     text_is =
         finished _ (others _ (households.written _ started))
-        ∙ append_assoc (header_text asked kept) (flat_map text_of_row households.rows) (flat_map text_of_row (map (unnamed_row (length kept)) panel.unnamed))
-        ∙ ap (λ t. header_text asked kept ++ t) (sym (flat_map-append text_of_row households.rows (map (unnamed_row (length kept)) panel.unnamed)));
+        ∙ append_assoc (header_text asked kept) (flat_map text_of_row households.rows) (flat_map text_of_row (map (unnamed_row count) unnamed))
+        ∙ ap (λ t. header_text asked kept ++ t) (sym (flat_map-append text_of_row households.rows (map (unnamed_row count) unnamed)))
+        ∙ ap (λ (n : ℕ). header_text asked kept ++ flat_map text_of_row (households.rows ++ map (unnamed_row n) unnamed)) counted
+        ∙ ap (λ (us : List Unnamed). header_text asked kept ++ flat_map text_of_row (households.rows ++ map (unnamed_row (length kept)) us)) same;
   }

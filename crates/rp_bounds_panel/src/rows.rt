@@ -95,21 +95,21 @@ fn write_unnamed(
         (text ++ flat_map text_of_row (map (unnamed_row kept) unnamed.now))) }
 {
     for refused in unnamed {
-        let row = row_of_unnamed(alloc, kept, *refused)?;
+        let row = row_of_unnamed(alloc, kept, refused)?;
         rows.write_row(alloc, &row)?;
     }
     Ok(())
 }
 
 /// The row of a record that is refused for its id, with so many texts that are kept.
-fn row_of_unnamed(alloc: Global, kept: usize, unnamed: Unnamed) -> Result<BoundRow, NoMemory>
-    ensures { IfOk result (λ row. row ≡ unnamed_row kept unnamed) }
+fn row_of_unnamed(alloc: Global, kept: usize, unnamed: &Unnamed) -> Result<BoundRow, NoMemory>
+    ensures { IfOk result (λ row. row ≡ unnamed_row kept unnamed.now) }
 {
     let kept = empty_texts(alloc, kept)?;
     Ok(BoundRow {
         household: Seq::from_vec(Vec::new(alloc)),
         kept,
-        found: FoundBounds::Fault(BoundFault::OfHousehold(id_fault(unnamed))),
+        found: FoundBounds::Fault(BoundFault::OfHousehold(id_fault(*unnamed))),
     })
 }
 

@@ -131,7 +131,13 @@ fn bounds_on_demand(rt: HostRuntime) -> Result<(), Fail> {
 
 #[test]
 fn bounds_on_the_money_metric(rt: HostRuntime) -> Result<(), Fail> {
-    check_cases(&rt, rt.alloc(), BoundsAsked::Welfare, WELFARE_HEADER, WELFARES)
+    check_cases(
+        &rt,
+        rt.alloc(),
+        BoundsAsked::Welfare,
+        WELFARE_HEADER,
+        WELFARES,
+    )
 }
 
 /// What is kept is that of a household's first record, in each of its lines.
@@ -139,9 +145,14 @@ fn bounds_on_the_money_metric(rt: HostRuntime) -> Result<(), Fail> {
 fn kept_columns(rt: HostRuntime) -> Result<(), Fail> {
     let alloc = rt.alloc();
     let file = "household,p_a,q_a,where\nA,3,2,\"north, east\"\n,3,2,west\n";
-    let found = bounds_of(alloc, BoundsAsked::Demand, file, "m,p_a\n5,3\n1,3\n", &[b"where"])?;
-    let wanted =
-        "household,observations,goods,price,good,lower,lower_floor,upper,upper_ceiling,\
+    let found = bounds_of(
+        alloc,
+        BoundsAsked::Demand,
+        file,
+        "m,p_a\n5,3\n1,3\n",
+        &[b"where"],
+    )?;
+    let wanted = "household,observations,goods,price,good,lower,lower_floor,upper,upper_ceiling,\
         fault,record,column,where\n\
         A,1,1,1,a,5/3,1.666666,5/3,1.666667,,,,\"north, east\"\n\
         A,1,1,2,a,1/3,0.333333,1/3,0.333334,,,,\"north, east\"\n\
