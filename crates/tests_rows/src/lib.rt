@@ -1,7 +1,9 @@
 //! Tests of the rows of households: verdicts, fractions rounded down, faults, how ids and kept texts are quoted, and the
-//! rows of whole long files.
+//! rows of whole long files, with verdicts and with bounds at new prices.
 #![tactic(auto)]
 
+#[cfg(test)]
+mod bounds;
 #[cfg(test)]
 mod panels;
 #[cfg(test)]

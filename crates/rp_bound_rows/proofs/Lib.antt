@@ -1,0 +1,5 @@
+mod AmountLemmas
+mod LineLemmas
+mod PlacesLemmas
+mod SmallLemmas
+mod TextLemmas

@@ -1,0 +1,12 @@
+pub mod Amounts
+pub mod AsStated
+pub mod BoundFaults
+pub mod BoundRows
+pub mod DemandLines
+pub mod InnerParts
+pub mod PricePlaces
+pub mod RowText
+pub mod Sides
+pub mod SmallParts
+pub mod WelfareLines
+pub mod Writing

@@ -1,0 +1,2 @@
+pub mod BoundsText
+pub mod InnerRows
