@@ -140,8 +140,8 @@ R_INSIDE = """/* The library inside the package: the one of onefile/. */
 
 #include "inside.h"
 
-rp_call *revealed_inside(int wide) {
-    return wide ? rp_answer_wide : rp_answer;
+rp_call *revealed_inside(int which) {
+    return which == 2 ? rp_panel : which == 1 ? rp_answer_wide : rp_answer;
 }
 """
 
