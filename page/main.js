@@ -177,8 +177,8 @@ async function answerPanel(slot, own) {
   if (ragged) {
     const { record, fields, names } = ragged;
     showsOf(own).tell(
-      `Refused: record ${record} has ${fields} fields, and there are ${names} names of columns. Nothing is completed, ` +
-        "cut or shifted: mend the record, and take the file again.",
+      `Refused: record ${record} has ${fields} fields, and there are ${names} names of columns. Nothing is ` +
+        "completed, cut or shifted: mend the record, and take the file again.",
     );
     return;
   }

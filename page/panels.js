@@ -187,8 +187,8 @@ export class Panel {
       make("span", {
         className: "note",
         textContent:
-          "A spreadsheet may take a fraction as 4/5 for a date: there use efficiency_floor, rounded down. A name that " +
-          "begins with =, +, - or @ has a ' before it there.",
+          "A spreadsheet may take a fraction as 4/5 for a date: there use efficiency_floor, rounded down. A name " +
+          "that begins with =, +, - or @ has a ' before it there.",
       }),
     );
   }
