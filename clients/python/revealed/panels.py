@@ -316,6 +316,14 @@ def id_of(keys: Sequence[Any]) -> str:
     return ",".join(map(program.field, texts)) if all(texts) else ""
 
 
+def is_id(text: str) -> bool:
+    """Whether an id is one that the program takes for a household's; refuses what is no text."""
+    try:
+        return bool(text) and len(text.encode("utf-8", "surrogateescape")) <= ID_BYTES
+    except UnicodeEncodeError as wrong:
+        raise BadData(f"the name of a household is no text: {wrong}") from None
+
+
 class _Household(NamedTuple):
     """A household of a long frame: its id and its key, and its rows, from 0."""
 
@@ -380,7 +388,7 @@ class LongFrame(Sheet):
         for at, keys in enumerate(zip(*columns)):
             own = id_of(keys)
             key = keys if len(self.by) > 1 else keys[0]
-            if not own or len(own.encode("utf-8", "surrogateescape")) > ID_BYTES:
+            if not is_id(own):
                 unnamed.append(_Household(self, own, key, [at]))
             elif own in found:
                 found[own].places.append(at)
@@ -459,7 +467,7 @@ class LongFrame(Sheet):
         data = program.csv_bytes([self.names, *records])
         ran = program.ran_of(*run(path, self.asked.words(), {LONG: data}))
         out = program.output(ran, lambda _, fault, at: self.refused(fault, at))
-        named = [own.id for own in sent if own.id and len(own.id.encode("utf-8", "surrogateescape")) <= ID_BYTES]
+        named = [own.id for own in sent if is_id(own.id)]
         rows = answered(out, named, len(sent) - len(named), self.asked)
         return [self.row(own, texts, places) for own, texts in zip(sent, rows)]
 

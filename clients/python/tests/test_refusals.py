@@ -3,6 +3,7 @@ say something else. A refusal of data is the program's that RP_EXEC names."""
 
 import os
 import pathlib
+import shutil
 import stat
 import tempfile
 import unittest
@@ -408,8 +409,8 @@ class OtherPrograms(unittest.TestCase):
                     with self.assertRaises(Unreadable, msg=f"{text[:40]!r} in call {number}") as caught:
                         call(exe)
                     self.assertEqual(caught.exception.status, 0)
-                (row,) = revealed.panel({"id": [1, 1], "p_a": [1, 2], "p_b": [2, 1], "q_a": [1, 2], "q_b": [2, 1]}, "id", exe=exe, progress=False)
-                self.assertIsInstance(row.failure, Unreadable)
+                with self.assertRaises(Unreadable):
+                    revealed.panel({"id": [1, 1], "p_a": [1, 2], "p_b": [2, 1], "q_a": [1, 2], "q_b": [2, 1]}, "id", exe=shutil.copy(exe, f"{folder}/rp-panel"))
 
     def test_what_is_no_program(self):
         for exe in (5, b"/nowhere", "/nowhere", "a\x00b", object(), pathlib.Path("/nowhere")):

@@ -62,7 +62,7 @@ long_sheet <- function(data, id, sides, digits) {
   whole <- list(
     file = "table", header = c("household", sprintf("p_%d", seq_len(count)), sprintf("q_%d", seq_len(count)), if (levels) "e"),
     names = c(id[1], price_names(sides), paste0("q_", sides$goods), if (levels) "e"), kinds = c("", kinds), columns = c(list(ids), columns),
-    labels = labels_in(sides$labels, rows), forms = digits
+    labels = labels_in(sides$labels), forms = digits
   )
   # What fits is told by all households, which are rounded alike.
   whole$fit <- if (!is_rounded(digits)) fit_of(whole)
@@ -100,8 +100,13 @@ id_texts <- function(x) {
 # Quotes the fields that have to be.
 csv_field <- function(text) ifelse(grepl("[\",\r\n]", text, useBytes = TRUE), paste0("\"", gsub("\"", "\"\"", text, fixed = TRUE), "\""), text)
 
-# Returns the labels of the rows; the numbers of the rows where two rows of one household have one label, or a row has none.
-labels_in <- function(labels, rows) row_labels(labels)
+# Returns the labels of the rows as they are told.
+labels_in <- function(labels) {
+  if (is.factor(labels)) labels <- as.character(labels)
+  labels <- as.vector(labels)
+  is_whole <- is.double(labels) && all(is.na(labels) | is.finite(labels) & labels == floor(labels) & abs(labels) < 2^31)
+  if (is_whole) as.integer(labels) else labels
+}
 
 # ---- the call
 
@@ -117,7 +122,7 @@ panel_rows <- function(long, numbers, words, engine) {
 }
 
 block_rows <- function(long, block, words, engine) {
-  pooled <- vapply(block, function(at) long$is_named[at] && anyDuplicated(stats::na.omit(long$labels[long$rows[[at]]])) > 0, TRUE)
+  pooled <- vapply(block, function(at) long$is_named[at] && anyDuplicated(long$labels[long$rows[[at]]]) > 0, TRUE)
   asked <- block[!pooled]
   found <- rep(list(stats::setNames(c("", rep("", 11), "Pooled", "", ""), panel_columns)), length(block))
   if (length(asked)) found[!pooled] <- called_rows(long, asked, words, engine)
@@ -198,7 +203,13 @@ panel_refusal <- function(long, texts, rows, data) {
   if (is.na(hint)) hint <- hint_of(long, fault, column, value)
   own <- match(name, names(data))
   places <- list(record = place$record, column = if (!is.na(own)) own)
-  refused(fault, "table", places, if (is.null(place$record)) NA else long$labels[place$record], name, shown(value), hint)
+  refused(fault, "table", places, label_of(long, place$record), name, shown(value), hint)
+}
+
+# Returns what the row of a fault is called: its number where it has no label, NA where the fault has no row.
+label_of <- function(long, record) {
+  if (is.null(record)) return(NA)
+  if (is.na(long$labels[record])) record else long$labels[record]
 }
 
 # Returns what to do about a fault of a panel, or NA.

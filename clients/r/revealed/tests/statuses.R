@@ -24,7 +24,7 @@ budgets <- data.frame(obs = c("low", "high"), p_a = 1, w = 1)
 choices <- data.frame(budget = c("low", "high"), q_a = 1, n = 1)
 wrong <- caught(rp_random(budgets, choices, exe = fake("exit 4", "rp: NeedUnit budget 2")), "rp_refused")
 stopifnot(wrong$fault == "NeedUnit", wrong$budget == 2, wrong$label == "high")
-failing <- caught(rp_panel(data.frame(id = 1, p_a = 1, q_a = 1), "id", exe = fake("exit 6", "rp-panel: out of memory")), "rp_failed")
+failing <- caught(rp_panel(data.frame(id = 1, p_a = 1, q_a = 1), "id", exe = fake("exit 6", "rp-panel: out of memory", name = "rp-panel")), "rp_failed")
 stopifnot(failing$status == 6, failing$said == "rp-panel: out of memory")
 
 certificate <- paste0(
@@ -53,7 +53,7 @@ for (said in other) {
     stopifnot(wrong$status == 0, grepl("no answer of rp", conditionMessage(wrong)))
   }
 }
-stopifnot(grepl("no answer", conditionMessage(caught(rp_panel(cbind(id = 1, plain), "id", exe = fake("exit 0", out = "hello")), "rp_failed"))))
+stopifnot(grepl("no answer", conditionMessage(caught(rp_panel(cbind(id = 1, plain), "id", exe = fake("exit 0", out = "hello", name = "rp-panel")), "rp_failed"))))
 
 # by argument, then by the variable, then by the path
 bad <- fake("exit 6")
