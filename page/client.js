@@ -76,6 +76,11 @@ export class Client {
     }
   }
 
+  /** Answers the households of a long file, by the call of panels: its status, its table and what is told. */
+  households(words, bytes) {
+    return this.#ask("households", { words, bytes });
+  }
+
   get isBusy() {
     return this.waiting.size > 0;
   }

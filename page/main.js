@@ -10,7 +10,7 @@ import { Panel, purchasesOf } from "./panels.js";
 import { tableQuestions } from "./questions.js";
 import { parseFault } from "./reports.js";
 import { Runs } from "./runs.js";
-import { Sheet, fitOf, placeInFile, placeInWords, splitHouseholds } from "./sheets.js";
+import { Sheet, fitOf, longFiles, placeInFile, placeInWords, raggedRecord, splitHouseholds } from "./sheets.js";
 import { Slot } from "./slots.js";
 
 const EXAMPLES = JSON.parse(textOf("examples"));
@@ -173,10 +173,25 @@ async function answerPanel(slot, own) {
   const began = performance.now();
   const [sheet, mapping] = [slot.sheet, slot.mapping];
   const records = sheet.changed();
+  const ragged = raggedRecord(records);
+  if (ragged) {
+    const { record, fields, names } = ragged;
+    showsOf(own).tell(
+      `Refused: record ${record} has ${fields} fields, and there are ${names} names of columns. Nothing is ` +
+        "completed, cut or shifted: mend the record, and take the file again.",
+    );
+    return;
+  }
   const households = splitHouseholds(records, mapping);
+  const files = longFiles(records, mapping, households);
+  // A column of the long file stands behind that of the households.
+  const placeOf = ({ record, column }) =>
+    placeInFile({ record, column: Math.max(column - 1, 0) }, records, mapping);
   const place = (fault, numbers) => placeInWords(placeInFile(fault, records, mapping, numbers));
   const shows = { ...showsOf(own), place };
-  const panel = new Panel(client, households, { shows, place, hasOwnMoney: mapping.hasOwnMoney });
+  const hasLevels = mapping.names(sheet.header).includes("e");
+  const { hasOwnMoney } = mapping;
+  const panel = new Panel(client, households, { files, shows, place: placeOf, hasOwnMoney, hasLevels });
   slot.show(null, true);
   shows.tell(`${households.length} households.`);
   shows.results(panel.place);
@@ -189,7 +204,7 @@ async function answerPanel(slot, own) {
     shows.tell(`${households.length} households and ${panel.random.length} random behaviours ${waited}: answered.`);
   }
   panel.show(true);
-  shows.questions(...panelQuestions(client, households, shows));
+  if (households.length) shows.questions(...panelQuestions(client, households, shows));
 }
 
 async function answerOthers(own) {

@@ -3,7 +3,7 @@ import { button, keepFile, labelled, make } from "./dom.js";
 import { area, pricePlacesOf, question } from "./questions.js";
 import { Purchases, decimalOf, inUnits, parseFault, parseReport } from "./reports.js";
 import { WIDE_COLUMN, isWithheld } from "./says.js";
-import { bytesOf, parseRecords, placeInFile, placeInWords, writeRecords } from "./sheets.js";
+import { bytesOf, forSpreadsheet, parseRecords, placeInFile, placeInWords, writeRecords } from "./sheets.js";
 
 const BOUND = new RegExp(
   "^(?:good|welfare prices .* observation) (\\d+) lower (\\S+|withheld \\d+) upper (\\S+|withheld \\d+)(?: at \\d+)?$",
@@ -20,6 +20,9 @@ const BOUND_COLUMNS = [
   "wide",
   "told",
 ];
+
+/** A row for a file: a spreadsheet takes no id of it for a formula. */
+const forSheet = ([household, ...rest]) => [forSpreadsheet(household), ...rest];
 
 /** The bounds of each line of a report that has some. */
 const boundsIn = (output) => output.split("\n").map((line) => BOUND.exec(line)).filter(Boolean);
@@ -91,7 +94,7 @@ function panelQuestion(client, households, kind, says, field, { working, progres
     const first = refused ? ` The first that was refused is ${refused[0]}: ${refused.at(-1)}` : "";
     const keep = button(
       "Keep the bounds as CSV",
-      () => keepFile(`${kind}.csv`, writeRecords([BOUND_COLUMNS, ...rows]), "text/csv"),
+      () => keepFile(`${kind}.csv`, writeRecords([BOUND_COLUMNS, ...rows.map(forSheet)]), "text/csv"),
     );
     place.replaceChildren(
       make(

@@ -5,55 +5,80 @@ import { button, freshId, keepFile, labelled, make, say } from "./dom.js";
 import { MOST_SEED } from "./draws.js";
 import { limit } from "./facts.js";
 import { indexPicture, fileOf } from "./pictures.js";
-import { Purchases, asNumber, decimalOf, parseFault, parseReport } from "./reports.js";
-import { WIDE_COLUMN, isWideTest } from "./says.js";
-import { parseRecords, writeRecords } from "./sheets.js";
+import { FAULTS, Purchases, asNumber } from "./reports.js";
+import { forSpreadsheet, parseRecords, placeInWords, writeRecords } from "./sheets.js";
 
 // How many rows stand on the page at once.
 const MOST_ROWS = 500;
 export const COLUMNS = [
   "household",
-  "status",
+  "observations",
+  "goods",
   "garp",
   "efficiency",
-  "decimal",
+  "efficiency_floor",
   "attained",
   "homothetic",
   "quasilinear",
-  "wide",
-  "cycle",
-  "told",
+  "pump",
+  "pump_floor",
+  "power",
+  "fault",
+  "record",
+  "column",
 ];
+// What the page does not ask of each household.
+const NOT_ASKED = ["pump", "pump_floor", "power"];
+const SHARE = "[0-9]+(?:/[0-9]+)?";
+const VERDICTS = new RegExp(
+  `^[0-9]+,[0-9]+,(?:holds|violated),${SHARE},[0-9]+[.][0-9]{6},(?:yes|no),(?:holds|violated|withheld),` +
+    "(?:holds|violated),,,$",
+);
+// What faults mean that a panel alone has.
+const OF_IDS = {
+  NoId: "This record has no household, and is no household's: give it the name of its household, or leave it out.",
+  LongId: "The name of a household is longer than is taken.",
+};
 
-/** What is told of a refused household: the fault, where it stands in the file, and what it means. */
-function refusalInWords(told, place) {
-  const fault = parseFault(told);
-  return fault ? `${fault.fault}${place(fault)}. ${fault.means}` : told.trim();
+/** The words of the call of panels over a long file. */
+export const PANEL_WORDS = ["long.csv", "--id", "household", "--wide"];
+
+/**
+ * The rows of a table that the call of panels wrote, by column: of these households, and then of so many records of
+ * none. What is any other table, or none, is no answer.
+ */
+export function rowsOf(output, { households, unnamed }) {
+  const [names, ...records] = parseRecords(output, ",");
+  const isRow = (fields) => {
+    const [verdicts, fault] = [fields.slice(1, 12).join(","), fields[12]];
+    return fields.length === COLUMNS.length && (fault ? /^,*$/ : VERDICTS).test(verdicts);
+  };
+  const ids = [...households, ...Array(unnamed).fill("")];
+  const isTold = (id, at) => records[at][0] === id && (id !== "" || records[at][12] in OF_IDS);
+  const isTable = names?.join() === COLUMNS.join() && records.length === ids.length;
+  if (!isTable || !records.every(isRow) || !ids.every(isTold)) {
+    throw new Error("the program gave no table of these households");
+  }
+  return records.map((fields) => Object.fromEntries(COLUMNS.map((it, at) => [it, fields[at]])));
 }
 
-/** What a household's answer says, by column; `place` says where in the file a fault stands. */
-export function rowOf({ household, status, output, told, stated = null }, place = () => "") {
-  if (status !== 0) {
-    const nothing = Object.fromEntries(COLUMNS.map((it) => [it, ""]));
-    return { ...nothing, household, status: String(status), told: refusalInWords(told, place) };
-  }
-  const { items, levels } = parseReport(output);
-  const [efficiency, , attained] = items.efficiency.verdict.split(" ");
-  const word = (it) => it.verdict.split(" ")[0];
-  return {
-    household,
-    status: "0",
-    levels: Boolean(levels),
-    garp: word(items.garp),
-    efficiency,
-    decimal: decimalOf(efficiency, 6),
-    attained,
-    homothetic: word(items.homothetic),
-    quasilinear: word(items.quasilinear),
-    wide: isWideTest(output, stated) ? "homothetic" : "",
-    cycle: items.garp.cycle ?? "",
-    told: "",
-  };
+/**
+ * A row as the page has it: its fault at its place in the file, whose records have these numbers, and as `told` in
+ * words; `place` gives the place in the file of a column of the long file.
+ */
+export function rowAt(row, numbers, place) {
+  if (!row.fault) return { ...row, told: "" };
+  const record = row.record ? numbers[Number(row.record) - 1] : 0;
+  const at = place({ record, column: Number(row.column) });
+  const told = `${row.fault}${placeInWords(at)}. ${OF_IDS[row.fault] ?? FAULTS[row.fault] ?? ""}`;
+  const text = (number) => (number ? String(number) : "");
+  return { ...row, record: text(record), column: text(at.column), told };
+}
+
+/** The records of a table for a file: a spreadsheet takes no id of it for a formula. */
+export function tableRecords(rows) {
+  const field = (row, it) => (it === "household" ? forSpreadsheet(row[it]) : row[it]);
+  return [COLUMNS, ...rows.map((row) => COLUMNS.map((it) => field(row, it)))];
 }
 
 const seconds = (from) => ((performance.now() - from) / 1000).toFixed(1);
@@ -62,15 +87,16 @@ export const purchasesOf = (bytes) =>
   new Purchases(parseRecords(new TextDecoder().decode(bytes).replace(/^\ufeff/, ""), ","));
 
 /**
- * Shows a panel and answers it. `shows` has what tells of long work, for the run that the panel is of: `working`,
- * `progress`, `tell`; `place` says where in the file a fault of a household stands.
+ * Shows a panel and answers it, by long files of some of its households. `shows` has what tells of long work, for the
+ * run that the panel is of: `working`, `progress`, `tell`; `place` gives the place in the file of a fault.
  */
 export class Panel {
-  constructor(client, households, { shows, place, hasOwnMoney = false }) {
+  constructor(client, households, { files, shows, place, hasOwnMoney = false, hasLevels = false }) {
     [this.client, this.households, this.shows, this.where] = [client, households, shows, place];
+    [this.files, this.hasLevels] = [files, hasLevels];
     [this.rows, this.random, this.order, this.filter] = [[], [], { column: null, falls: false }, ""];
     [this.hasOwnMoney, this.opening, this.took] = [hasOwnMoney, 0, ""];
-    this.columns = COLUMNS.filter((it) => !(hasOwnMoney && it === "quasilinear"));
+    this.columns = COLUMNS.filter((it) => !NOT_ASKED.includes(it) && !(hasOwnMoney && it === "quasilinear"));
     this.summary = make("p", { id: "panel-summary" });
     this.figure = make("figure", { id: "panel-picture" });
     this.shares = make("div", { id: "panel-shares" });
@@ -83,14 +109,15 @@ export class Panel {
 
   /** Answers each household; `began` is when that was asked for. */
   async run(began) {
-    const by = new Map(this.households.map((it) => [it.household, it]));
-    const told = (parts) => {
-      this.rows.push(...parts.map((it) => rowOf(it, (fault) => this.where(fault, by.get(it.household).numbers))));
-      this.shows.progress(this.rows.length, this.households.length, began, "households");
-      this.show(false);
-    };
+    const all = this.files.reduce((sum, it) => sum + it.households.length + it.unnamed, 0);
     try {
-      await this.client.panel(["analyse", "table.csv"], this.households, told);
+      for (const file of this.files) {
+        const { status, output, told } = await this.client.households(PANEL_WORDS, file.bytes);
+        if (status !== 0) throw new Error(told.trim() || `the program ended with status ${status}`);
+        for (const it of rowsOf(output, file)) this.rows.push(this.#taken(rowAt(it, file.numbers, this.where)));
+        this.shows.progress(this.rows.length, all, began, "households");
+        this.show(false);
+      }
     } finally {
       this.took = ` in ${seconds(began)} s`;
       this.show(true);
@@ -98,9 +125,14 @@ export class Panel {
     await this.#drawRandom(this.seed.value, this.count.value);
   }
 
+  /** Where what is spent is in money of its own at each observation, nothing is told that adds it. */
+  #taken(row) {
+    return this.hasOwnMoney ? { ...row, quasilinear: "" } : row;
+  }
+
   /** Random behaviour on the budgets of the households that were answered, one after another. */
   async #drawRandom(seed, count) {
-    const answered = new Set(this.rows.filter((it) => it.status === "0").map((it) => it.household));
+    const answered = new Set(this.rows.filter((it) => !it.fault).map((it) => it.household));
     const given = this.households.filter((it) => answered.has(it.household));
     if (!given.length) return;
     const began = performance.now();
@@ -144,7 +176,7 @@ export class Panel {
     );
     const csv = () => keepFile(
       "verdicts.csv",
-      writeRecords([this.columns, ...this.rows.map((row) => this.columns.map((it) => row[it]))]),
+      writeRecords(tableRecords(this.rows)),
       "text/csv",
     );
     return make(
@@ -154,7 +186,9 @@ export class Panel {
       button("Keep the table as CSV", csv),
       make("span", {
         className: "note",
-        textContent: "A spreadsheet may take a fraction as 4/5 for a date: there use the column decimal, rounded down.",
+        textContent:
+          "A spreadsheet may take a fraction as 4/5 for a date: there use efficiency_floor, rounded down. A name " +
+          "that begins with =, +, - or @ has a ' before it there.",
       }),
     );
   }
@@ -197,7 +231,7 @@ export class Panel {
       (row) => !this.filter || this.columns.some((it) => row[it].toLowerCase().includes(this.filter)),
     );
     if (!column) return found;
-    const isIndex = column === "efficiency" || column === "decimal";
+    const isIndex = column === "efficiency" || column === "efficiency_floor";
     const key = (row) => (isIndex && row.efficiency ? asNumber(row.efficiency) : row[column]);
     const compared = (a, b) =>
       typeof a === "number" && typeof b === "number"
@@ -211,8 +245,9 @@ export class Panel {
   async #open(row) {
     this.opening += 1;
     const own = this.opening;
-    const head = make("h3", { textContent: `Household ${row.household}` });
-    if (row.status !== "0") {
+    const name = row.household ? `Household ${row.household}` : `Record ${row.record}`;
+    const head = make("h3", { textContent: name });
+    if (row.fault) {
       this.opened.replaceChildren(head, make("p", { className: "fault", textContent: row.told }));
       return;
     }
@@ -229,7 +264,7 @@ export class Panel {
   #row(row) {
     const cells = this.columns.map((it) => {
       if (it === "household") {
-        const open = button(row.household || "(no name)", () => this.#open(row), "link");
+        const open = button(row.household || "(none)", () => this.#open(row), "link");
         open.setAttribute("aria-label", `open household ${row.household}`);
         return make("td", {}, open);
       }
@@ -239,21 +274,24 @@ export class Panel {
   }
 
   show(isWhole) {
-    const refused = this.rows.filter((it) => it.status !== "0");
+    const unnamed = this.rows.filter((it) => !it.household);
+    const refused = this.rows.filter((it) => it.fault && it.household);
     const kept = this.rows.filter((it) => it.garp === "holds");
-    const single = new Set(this.households.filter((it) => it.numbers.length === 1).map((it) => it.household));
-    const alone = kept.filter((it) => single.has(it.household)).length;
-    const first = refused[0] ? ` The first that was refused is ${refused[0].household}: ${refused[0].told}` : "";
+    const alone = kept.filter((it) => it.observations === "1").length;
+    const [worst] = [...refused, ...unnamed];
+    const who = worst?.household ? `${worst.household}: ` : "a record: ";
+    const first = worst ? ` The first that was refused is ${who}${worst.told}` : "";
     const nothing = alone ? ` (${alone} of these have one record, which can violate nothing)` : "";
-    const held = kept.some((it) => it.levels) ? ", by their levels" : "";
+    const held = this.hasLevels ? ", by their levels" : "";
+    const none = unnamed.length ? ` ${unnamed.length} records have no household, and are no household's.` : "";
+    const answered = this.rows.length - refused.length - unnamed.length;
     this.summary.textContent =
-      `${this.rows.length - refused.length} of ${this.households.length} households answered${this.took}, ` +
-      `${kept.length} of them meet the axiom${held}${nothing}, ${refused.length} refused.${first}`;
+      `${answered} of ${this.households.length} households answered${this.took}, ` +
+      `${kept.length} of them meet the axiom${held}${nothing}, ${refused.length} refused.${none}${first}`;
     if (!isWhole) return;
     const found = this.#shown();
     this.body.replaceChildren(...found.slice(0, MOST_ROWS).map((row) => this.#row(row)));
-    const marked = this.rows.some((it) => it.wide) ? ` ${WIDE_COLUMN}` : "";
-    const opens = ` Press a household to see its picture and its cycle.${marked}`;
+    const opens = " Press a household to see its picture and its cycle.";
     this.note.textContent = (found.length > MOST_ROWS
       ? `The first ${MOST_ROWS} of ${found.length} rows are shown; the CSV has all.`
       : `${found.length} rows.`) + opens;

@@ -252,7 +252,7 @@ export const FAULTS = {
 
 /** What is told of a refused file: its name, fault, record, column, and what it means. */
 export function parseFault(told) {
-  const it = /^rp: (?:([^]*?): )?([A-Z]\w+)((?: [a-z]+ \d+)*)\n$/.exec(told);
+  const it = /^rp(?:-panel)?: (?:([^]*?): )?([A-Z]\w+)((?: [a-z]+ \d+)*)\n$/.exec(told);
   if (!it) return null;
   const place = (word) => Number(new RegExp(`${word} (\\d+)`).exec(it[3])?.[1] ?? 0);
   return {

@@ -2,21 +2,22 @@
  * Files of numbers as people have them: what of their form the program does not take is found and named, with the exact
  * change that is offered. Nothing is changed before it is asked for.
  */
+import { limit } from "./facts.js";
 
 /**
  * Gives the records of a text with this mark between fields, a quoted field taken as one; each with its line's number.
  */
 export function parseRecords(text, mark) {
   const records = [];
-  let [fields, field, quoted, started] = [[], "", false, false];
+  let [fields, field, quoted, started, isQuoted] = [[], "", false, false, false];
   const endField = () => {
     fields.push(field);
     [field, started] = ["", false];
   };
   const endRecord = () => {
     endField();
-    if (fields.length > 1 || fields[0] !== "") records.push(fields);
-    fields = [];
+    if (fields.length > 1 || fields[0] !== "" || isQuoted) records.push(fields);
+    [fields, isQuoted] = [[], false];
   };
   for (let at = 0; at < text.length; at++) {
     const it = text[at];
@@ -25,7 +26,7 @@ export function parseRecords(text, mark) {
       else if (text[at + 1] === '"') field += text[at++];
       else quoted = false;
     } else if (it === '"' && !started && field === "") {
-      [quoted, started] = [true, true];
+      [quoted, started, isQuoted] = [true, true, true];
     } else if (it === mark) {
       endField();
     } else if (it === "\n" || it === "\r") {
@@ -42,7 +43,20 @@ export function parseRecords(text, mark) {
 /** Writes records as the program reads them. */
 export function writeRecords(records) {
   const written = (it) => (/[",\n\r]/.test(it) ? `"${it.replaceAll('"', '""')}"` : it);
-  return records.map((fields) => `${fields.map(written).join(",")}\n`).join("");
+  const line = (fields) => (fields.length === 1 && fields[0] === "" ? '""' : fields.map(written).join(","));
+  return records.map((fields) => `${line(fields)}\n`).join("");
+}
+
+/** An id as a spreadsheet takes it for a text, and never for a formula. */
+export const forSpreadsheet = (id) => (/^[=+\-@]/.test(id) ? `'${id}` : id);
+
+/** A text without the blanks round it, as the program takes a name and an id. */
+export const withoutBlanks = (text) => text.replace(/^[ \t]+|[ \t]+$/g, "");
+
+/** The first record of another length than the names of columns, from 1, and how many fields it has; or nothing. */
+export function raggedRecord(records) {
+  const record = records.findIndex((fields) => fields.length !== records[0].length);
+  return record < 0 ? null : { record, fields: records[record].length, names: records[0].length };
 }
 
 /** The mark between fields that the line of names suggests. */
@@ -400,9 +414,11 @@ export class Mapping {
     const kept = this.kept;
     return [
       kept.map((at) => names[at]),
-      ...records.slice(1).map(
-        (fields) => (fields.length === records[0].length ? kept.map((at) => fields[at]) : fields),
-      ),
+      ...records.slice(1).map((fields) => {
+        if (fields.length === records[0].length) return kept.map((at) => fields[at]);
+        // The program refuses a record of another length; so this has another than what it is given with, too.
+        return fields.length === kept.length ? [...fields, ""] : fields;
+      }),
     ];
   }
 }
@@ -433,15 +449,18 @@ export function lacksOf(mapping, header) {
   return "";
 }
 
+/** Whether an id is one: not empty, and no longer than the program takes. */
+const isId = (id) => id !== "" && bytesOf(id).length <= limit("long.household_bytes");
+
 /**
- * Gives the tables of a long file, one for each household in the order of first appearance, each with the numbers that
- * its records have in the file.
+ * The households of a long file in the order of first appearance, each with the numbers that its records have in the
+ * file, and with its table; a record that has no id is no household's.
  */
 export function splitHouseholds(records, mapping) {
-  const column = mapping.household;
   const parts = new Map();
   records.slice(1).forEach((fields, row) => {
-    const household = (fields[column] ?? "").trim();
+    const household = withoutBlanks(fields[mapping.household] ?? "");
+    if (!isId(household)) return;
     if (!parts.has(household)) parts.set(household, { rows: [records[0]], numbers: [] });
     parts.get(household).rows.push(fields);
     parts.get(household).numbers.push(row + 1);
@@ -449,7 +468,43 @@ export function splitHouseholds(records, mapping) {
   return [...parts].map(([household, { rows, numbers }]) => ({
     household,
     numbers,
-    bytes: bytesOf(writeRecords(mapping.apply(rows))),
+    get bytes() {
+      return bytesOf(writeRecords(mapping.apply(rows)));
+    },
+  }));
+}
+
+// So many records are handed to the program at once, and of a household no more than show that it has too many.
+const RECORDS_AT_ONCE = 2000;
+const deciding = () => limit("table.records") + 1;
+
+/**
+ * The long files that are asked about one after another, a household in one of them, and the records of none in the
+ * last ones: the households of each, how many records are of none, the numbers of all its records in the file, and its
+ * bytes.
+ */
+export function longFiles(records, mapping, households) {
+  const named = new Set(households.flatMap((it) => it.numbers));
+  const all = records.slice(1).map((_, row) => row + 1);
+  const none = all.filter((it) => !named.has(it)).map((it) => ({ household: "", numbers: [it] }));
+  const files = [];
+  for (const it of [...households, ...none]) {
+    const last = files.at(-1);
+    const isOther = last && Boolean(last.parts[0].household) !== Boolean(it.household);
+    if (!last || isOther || last.numbers.length >= RECORDS_AT_ONCE) files.push({ parts: [], numbers: [] });
+    files.at(-1).parts.push(it);
+    files.at(-1).numbers.push(...it.numbers.slice(0, deciding()));
+  }
+  const [names] = mapping.apply([records[0]]);
+  return files.map(({ parts, numbers }) => ({
+    households: parts.map((it) => it.household).filter(Boolean),
+    unnamed: parts.filter((it) => !it.household).length,
+    numbers,
+    get bytes() {
+      const rows = mapping.apply([records[0], ...numbers.map((it) => records[it])]).slice(1);
+      const ids = numbers.map((it) => records[it][mapping.household]);
+      return bytesOf(writeRecords([["household", ...names], ...rows.map((row, at) => [ids[at], ...row])]));
+    },
   }));
 }
 

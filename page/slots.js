@@ -74,7 +74,7 @@ export class Slot {
     const size = `${file.name} has ${(file.size / 2 ** 20).toFixed(1)} MB, and was not read.`;
     const way =
       `Beyond ${MOST_UNASKED / 2 ** 20} MB the page may take minutes, or run out of memory: the panel's command, ` +
-      "rp-panel, takes such files, and so do the packages for Python and R.";
+      "rp-panel, makes a table of such files, and so do the packages for Python and R.";
     this.body.replaceChildren(
       make(
         "div",

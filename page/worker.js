@@ -37,11 +37,18 @@ function answerPanel({ words, households, more }) {
   }));
 }
 
+/** The table of the households of a long file. */
+function answerHouseholds({ words, bytes }) {
+  const { status, output, told } = library.panel(words, [{ name: words[0], bytes }]);
+  const text = new TextDecoder();
+  return { status, output: text.decode(output), told: text.decode(told) };
+}
+
 onmessage = async ({ data: { id, kind, given } }) => {
   try {
     if (kind === "load") loading = load(given);
     library = await loading;
-    const answers = { load: () => null, one: answerOne, panel: answerPanel };
+    const answers = { load: () => null, one: answerOne, panel: answerPanel, households: answerHouseholds };
     postMessage({ id, answer: answers[kind](given) });
   } catch (error) {
     postMessage({ id, error: error.message });

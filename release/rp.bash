@@ -1,4 +1,4 @@
-# Completion of rp and of rp-wide in bash: the commands, the options of each, and the names of files.
+# Completion of rp, rp-wide and rp-panel in bash: the commands, the options of each, and the names of files.
 _rp() {
   local word=${COMP_WORDS[COMP_CWORD]} before=${COMP_WORDS[COMP_CWORD - 1]} options=
   COMPREPLY=()
@@ -22,3 +22,14 @@ _rp() {
   fi
 }
 complete -F _rp rp ./rp rp-wide ./rp-wide
+_rp_panel() {
+  local word=${COMP_WORDS[COMP_CWORD]}
+  COMPREPLY=()
+  if [[ $word == -* ]]; then
+    mapfile -t COMPREPLY < <(compgen -W "--id --keep --pump --power --wide" -- "$word")
+  elif [ "$COMP_CWORD" -eq 1 ]; then
+    compopt -o filenames 2>/dev/null
+    mapfile -t COMPREPLY < <(compgen -f -- "$word")
+  fi
+}
+complete -F _rp_panel rp-panel ./rp-panel

@@ -12,6 +12,8 @@ TOP = os.path.dirname(os.path.dirname(os.path.realpath(__file__)))
 PROGRAM = f"{TOP}/crates/rp/out/rp"
 # The program that answers what that one withholds.
 WIDE = f"{TOP}/crates/rp_wide/out/rp_wide"
+# The program that makes the table of households of a long file.
+PANEL = f"{TOP}/crates/rp_panel_program/out/rp_panel_program"
 TOGETHER = {"stdin": subprocess.DEVNULL, "stdout": subprocess.PIPE, "stderr": subprocess.STDOUT, "text": True, "errors": "replace"}
 
 

@@ -29,7 +29,7 @@ HERE = os.path.dirname(os.path.abspath(__file__))
 ONE_FILE = os.path.join(HERE, "onefile")  # of an sdist that compiles the library
 OLDEST = (2, 17)  # of what needs no version of the C library: the oldest that installers have a name for
 MACHINES = {62: "x86_64", 183: "aarch64"}
-COMMANDS = "[console_scripts]\nrp-panel = revealed.long_panel:main\n"
+COMMANDS = "[console_scripts]\nrp-panel-long = revealed.long:main\n"
 METADATA = """Metadata-Version: 2.1
 Name: {name}
 Version: {version}
@@ -133,7 +133,7 @@ def write_wheel(folder, extra=(), made=None, of_platform=None):
     with zipfile.ZipFile(os.path.join(folder, wheel), "w", zipfile.ZIP_DEFLATED) as it:
         for name, data in sorted(files.items()):
             head = zipfile.ZipInfo(name, date)
-            runs = name in {f"{NAME}/{it}" for it in ("rp", "rp-wide", "rp.exe", "rp-wide.exe")}
+            runs = name in {f"{NAME}/{it}" for it in ("rp", "rp-wide", "rp-panel", "rp.exe", "rp-wide.exe", "rp-panel.exe")}
             head.external_attr, head.compress_type, head.create_system = (0o100755 if runs else 0o100644) << 16, zipfile.ZIP_DEFLATED, 3
             it.writestr(head, data)
     return wheel

@@ -11,7 +11,7 @@ import { wordsOf } from "./command.js";
 import { amountsOf, behaviour, drawnTable, words } from "./draws.js";
 import { commands, facts, limit, range } from "./facts.js";
 import { boundRows } from "./panel_questions.js";
-import { rowOf } from "./panels.js";
+import { COLUMNS, rowAt, rowsOf, tableRecords } from "./panels.js";
 import { equalUtility, utilityOf } from "./pictures.js";
 import { nameBeside, withLevel } from "./questions.js";
 import {
@@ -50,12 +50,15 @@ import {
   Sheet,
   bytesOf,
   fitOf,
+  forSpreadsheet,
   lacksOf,
+  longFiles,
   numbersRecords,
   otherThanText,
   parseRecords,
   placeInFile,
   placeInWords,
+  raggedRecord,
   splitHouseholds,
   writeRecords,
 } from "./sheets.js";
@@ -323,10 +326,12 @@ test("a fault of a household is told at its place in the file", () => {
   assert.deepEqual(v.numbers, [1, 3]);
   const fault = parseFault("rp: table.csv: BadNumber record 2 column 2\n");
   assert.equal(placeInWords(placeInFile(fault, records, mapping, v.numbers)), ' at record 3, column 4 (q_a): "x6"');
-  const row = rowOf(
-    { household: "v", status: 4, output: "", told: "rp: table.csv: BadNumber record 2 column 2\n" },
-    (it) => placeInWords(placeInFile(it, records, mapping, v.numbers)),
-  );
+  const [file] = longFiles(records, mapping, splitHouseholds(records, mapping));
+  assert.equal(new TextDecoder().decode(file.bytes), "household,p_a,q_a\nv,1,2\nv,5,x6\nu,3,4\n");
+  const [own] = rowsOf(`${HEAD}v,,,,,,,,,,,,BadNumber,2,3\nu,1,1,holds,1,1.000000,yes,holds,holds,,,,,,\n`, file);
+  const row = rowAt(own, file.numbers, ({ record, column }) =>
+    placeInFile({ record, column: column - 1 }, records, mapping));
+  assert.deepEqual([row.record, row.column], ["3", "4"]);
   assert.match(row.told, /^BadNumber at record 3, column 4 \(q_a\): "x6"\. This is no number/);
   assert.equal(placeInWords(placeInFile(parseFault("rp: t.csv: NoRecords\n"), records, null)), "");
 });
@@ -351,19 +356,54 @@ test("a panel is split by household, in the order of first appearance", () => {
   assert.equal(new TextDecoder().decode(parts[0].bytes), "p_a,q_a\n1,2\n5,6\n");
 });
 
-test("the row of a household: its verdicts, or what is told", () => {
-  const row = rowOf({ household: "u", status: 0, output: REPORT, told: "" });
-  assert.deepEqual(
-    [row.garp, row.efficiency, row.decimal, row.attained, row.cycle],
-    ["violated", "4/5", "0.8", "yes", "1 2 1"],
-  );
-  const refused = rowOf(
-    { household: "v", status: 4, output: "", told: "rp: table.csv: ZeroPrice record 2 column 3\n" },
-  );
-  assert.deepEqual(
-    [refused.status, refused.garp, refused.told],
-    ["4", "", "ZeroPrice. A price is 0; prices are above 0."],
-  );
+const HEAD = `${COLUMNS.join()}\n`;
+const nowhere = () => ({ record: 0, column: 0, name: "", cell: "" });
+
+test("a record of another length refuses the file, and is never shifted", () => {
+  const records = parseRecords("note,id,p_a,q_a\n,v,1,2\n,v,3\n", ",");
+  assert.deepEqual(raggedRecord(records), { record: 2, fields: 3, names: 4 });
+  assert.equal(raggedRecord(records.slice(0, 2)), null);
+  // of a table whose first column is left out, a record that is short by one has not the length of the others
+  const table = parseRecords("note,p_a,q_a,p_b,q_b\n,1,2,3,4\n5,6,7,8\n", ",");
+  const changed = Mapping.suggested(table[0], table).apply(table);
+  assert.deepEqual(changed.map((it) => it.length), [4, 4, 5]);
+});
+
+test("ids are without the blanks round them, and records without one are none's", () => {
+  const text = 'id,p_a,q_a\nA,1,2\n"A ",2,1\n,1,1\n" \t",1,1\n"x\ry",1,1\nA,2,2\n"x\ry",2,2\n';
+  const records = parseRecords(text, ",");
+  const mapping = Mapping.suggested(["id", "p_a", "q_a"], records);
+  const households = splitHouseholds(records, mapping);
+  assert.deepEqual(households.map((it) => [it.household, it.numbers]), [["A", [1, 2, 6]], ["x\ry", [5, 7]]]);
+  const files = longFiles(records, mapping, households);
+  const told = files.map((it) => [it.households, it.unnamed, it.numbers]);
+  assert.deepEqual(told, [[["A", "x\ry"], 0, [1, 2, 6, 5, 7]], [[], 2, [3, 4]]]);
+  const written = 'household,p_a,q_a\nA,1,2\nA ,2,1\nA,2,2\n"x\ry",1,1\n"x\ry",2,2\n';
+  assert.equal(new TextDecoder().decode(files[0].bytes), written);
+  const [row] = rowsOf(`${HEAD},,,,,,,,,,,,NoId,1,\n,,,,,,,,,,,,NoId,2,\n`, files[1]).map((it) =>
+    rowAt(it, files[1].numbers, nowhere));
+  assert.deepEqual([row.household, row.record], ["", "3"]);
+  assert.match(row.told, /^NoId\. This record has no household/);
+});
+
+test("the rows of households: their verdicts, or a fault; and what is no table of theirs is no answer", () => {
+  const asked = { households: ["u", "v"], unnamed: 0 };
+  const good = ["u,2,2,violated,4/5,0.800000,yes,violated,violated,,,,,,\n", "v,,,,,,,,,,,,ZeroPrice,2,3\n"];
+  const [u, v] = rowsOf(HEAD + good.join(""), asked).map((it) => rowAt(it, [7, 9], nowhere));
+  assert.deepEqual([u.garp, u.efficiency, u.efficiency_floor], ["violated", "4/5", "0.800000"]);
+  assert.deepEqual([u.attained, u.told], ["yes", ""]);
+  assert.deepEqual([v.garp, v.record, v.told], ["", "9", "ZeroPrice. A price is 0; prices are above 0."]);
+  const wrong = ["", "usage\n", HEAD, HEAD + good[0], HEAD + good.join("") + good[1], good.join("")];
+  wrong.push(HEAD + good[1] + good[0]);
+  wrong.push(`${HEAD}${good[0]}v,,,,,,,,,,,,,,\n`, `${HEAD}${good[0]}v,1,2,maybe,1,1.000000,yes,holds,holds,,,,,,\n`);
+  for (const output of wrong) assert.throws(() => rowsOf(output, asked), /gave no table of these households/);
+});
+
+test("a spreadsheet takes no id for a formula", () => {
+  const ids = ["=1+1", "+a", "-a", "@a", "a=b", ""];
+  assert.deepEqual(ids.map(forSpreadsheet), ["'=1+1", "'+a", "'-a", "'@a", "a=b", ""]);
+  const row = { ...Object.fromEntries(COLUMNS.map((it) => [it, ""])), household: "=A", told: "no column" };
+  assert.deepEqual(tableRecords([row])[1], ["'=A", ...Array(14).fill("")]);
 });
 
 test("the words of a seed and the drawn behaviours are those of the clients", () => {
@@ -469,13 +509,21 @@ test("what rp withholds and rp-wide gives is marked", () => {
   const bounds = "bounds prices 1 output 1 lower 5 upper 40 at 2\nlower x 1 y none over 1\n";
   const [said] = costSays(bounds, 0, "bounds prices 1 output 1 lower withheld 3 upper 40 at 2\n");
   assert.ok(said.includes(`${WIDE} `) && !costSays(bounds, 0, bounds)[0].includes(WIDE));
-  const report = (words) => REPORT.replace(/homothetic violated\nstart 1\ncycle 1 2 1/, `homothetic ${words}`);
-  assert.notEqual(report(""), REPORT);
-  const given = { household: "u", status: 0, told: "", output: report("holds\nvalues 1 1") };
-  assert.equal(rowOf(given).wide, "");
-  assert.equal(rowOf({ ...given, stated: report("withheld steps 2 from 1 to 2") }).wide, "homothetic");
-  const withheld = report("withheld steps 2 from 1 to 2");
-  assert.equal(rowOf({ ...given, output: withheld, stated: withheld }).wide, "");
+});
+
+test("the worker answers the households of a long file by the call of panels", () => {
+  const source = readFileSync(new URL("worker.js", import.meta.url), "utf8");
+  const asked = [];
+  const panel = (words, files) => {
+    asked.push([words, files]);
+    return { status: 4, output: new Uint8Array(), told: bytesOf("rp-panel: long.csv: Unpaired column 2\n") };
+  };
+  const body = `${source}; library = self.library; return answerHouseholds;`;
+  const begin = new Function("load", "postMessage", "self", body);
+  const given = { words: ["long.csv", "--wide"], bytes: bytesOf("household,p_a\n") };
+  const { status, output, told } = begin(null, null, { library: { panel } })(given);
+  assert.deepEqual([status, output, parseFault(told).fault, parseFault(told).column], [4, "", "Unpaired", 2]);
+  assert.deepEqual(asked, [[given.words, [{ name: "long.csv", bytes: given.bytes }]]]);
 });
 
 test("the worker asks the wider edition where rp withholds something that it seeks, and says both", () => {

@@ -2,7 +2,7 @@
 that of R. tools/make/release makes them, and tools/check/packages installs them. The same files give the same bytes.
 
 The package for Debian has the gate's program as it is, with the library, the header, the manual page and the completion, and
-with rp-panel, the module of Python that it stands on, and the examples of the documents. It is written here, since dpkg-deb is not on every system: an `ar` archive of two archives, of what is told and of what is installed.
+with rp-panel-long, the module of Python that it stands on, and the examples of the documents. It is written here, since dpkg-deb is not on every system: an `ar` archive of two archives, of what is told and of what is installed.
 """
 import gzip
 import hashlib
@@ -34,18 +34,19 @@ Description: revealed preference with proved verdicts
  bounds of demand and welfare, and tests of random choices, menus and firms. The
  verdicts are proved, and PROVED among the documents says with what.
  .
- This package has the program, its library for C with the header, the manual page
- and the completion for bash; the command rp-panel for panels of many households
- and the module revealed for Python, on which it stands; and the examples that the
+ This package has the programs, their library for C with the header, the manual
+ pages and the completion for bash; rp-panel makes the table of many households of
+ one file, and the command rp-panel-long that of files of any length, over it, with
+ the module revealed for Python, on which that stands; and the examples that the
  documents run.
 """
 PANEL = """#!/usr/bin/python3
-\"\"\"Runs the command of the module revealed.long_panel, which tells what it takes: rp-panel --help.\"\"\"
+\"\"\"Runs the command of the module revealed.long, which tells what it takes: rp-panel-long --help.\"\"\"
 import sys
 
 # Nothing is left in the system's folders that the package has not.
 sys.dont_write_bytecode = True
-from revealed.long_panel import main
+from revealed.long import main
 
 if __name__ == "__main__":
     sys.exit(main())
@@ -103,8 +104,8 @@ def debian(entries, programs, library, version, libc, when, archive):
     for name in ("NOTICE", "PROVED", "README.md", *(it for it in entries if it.startswith(documents))):
         files[f"{folder}/{name}"] = entries[name]
     # Among the documents the panel stands where these have it, and is the command.
-    files[f"{folder}/clients/panel/rp-panel"] = ("../../../../../bin/rp-panel", False)
-    files["usr/bin/rp-panel"] = (PANEL.encode(), True)
+    files[f"{folder}/clients/panel/rp-panel-long"] = ("../../../../../bin/rp-panel-long", False)
+    files["usr/bin/rp-panel-long"] = (PANEL.encode(), True)
     inside = "clients/python/revealed/"
     files.update({f"{MODULES}/revealed/{it.removeprefix(inside)}": entries[it] for it in entries if it.startswith(inside)})
     files[f"{folder}/changelog.gz"] = (pressed(entries["CHANGELOG.md"][0]), False)
@@ -139,8 +140,8 @@ R_INSIDE = """/* The library inside the package: the one of onefile/. */
 
 #include "inside.h"
 
-rp_call *revealed_inside(int wide) {
-    return wide ? rp_answer_wide : rp_answer;
+rp_call *revealed_inside(int which) {
+    return which == 2 ? rp_panel : which == 1 ? rp_answer_wide : rp_answer;
 }
 """
 

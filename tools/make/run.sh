@@ -1,4 +1,4 @@
-# Runs a program of this repository for the script that takes this in, ./rp or ./rp-wide, in the caller's folder, with the
+# Runs a program of this repository for the script that takes this in, ./rp, ./rp-wide or ./rp-panel, in the caller's folder, with the
 # caller's words and status. `home` is the repository's folder; `name` the program's, and `crate` its crate's.
 #
 # Where the program that lies here was proved from the sources that lie here, that program answers. What ./prove kept

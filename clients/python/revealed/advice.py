@@ -51,6 +51,13 @@ HINTS = {
     "TooManyCombinations": f"a patch of each budget can be taken in more than {LIMITS['types.combinations']:,} ways: {FEWER}",
     "TooManyTypes": f"there are more than {LIMITS['types.types']:,} rational types: {FEWER}",
 }
+# And about those of a panel, beside these.
+PANEL_HINTS = {
+    "NoId": "a record without a household is none's: give it the name of its household, or leave it out",
+    "LongId": f"the name of a household has at most {LIMITS['long.household_bytes']} bytes",
+    "OwnLevels": "the money pump and the power are defined on tables without levels: leave pump and power out, or the levels",
+    "TooManyRecords": f"a household has at most {LIMITS['table.records']} rows: name more columns that tell households apart",
+}
 
 
 def numbers(values: Iterable[Any]) -> list[Fraction]:

@@ -21,10 +21,14 @@ def is_dask(d: Any) -> bool:
 
 
 def records_of(frame: Any, by: Any, more: dict[str, Any]) -> Any:
-    """Returns the records of the households of a frame of pandas, as `Panel.frame()` has them, without other processes."""
-    from .panels import answered
+    """Returns the records of the households of a frame of pandas, as `Panel.frame()` has them, by this thread alone. Of
+    a part of a frame nobody knows which rows the others have, so the record of a fault counts the household's own rows."""
+    from .panels import answers
 
-    return answered(frame, list(by) if isinstance(by, (list, tuple)) else [by], 1, False, **more).frame()
+    found = answers(frame, list(by) if isinstance(by, (list, tuple)) else [by], 1, False, **more)
+    for row in found:
+        row.count_own()
+    return found.frame()
 
 
 def panel_task(by: Any, *, order: Any = None, key: str = "string", **more: Any) -> Callable[[Any], Any]:
@@ -41,11 +45,11 @@ def panel_task(by: Any, *, order: Any = None, key: str = "string", **more: Any) 
     def task(frame: Any) -> Any:
         records = records_of(frame.sort_values(order, kind="stable"), by, more)
         for name, kind in records.dtypes.items():
-            if str(kind) in ("boolean", "string"):
+            if str(kind) in ("boolean", "string", "Int64"):
                 values = records[name].astype(object)
                 records[name] = values.where(values.notna(), None)
-            elif str(kind) in ("Float64", "Int64"):
-                records[name] = records[name].to_numpy("float64" if str(kind) == "Float64" else "int64", na_value=float("nan"))
+            elif str(kind) == "Float64":
+                records[name] = records[name].to_numpy("float64", na_value=float("nan"))
         return records
 
     names = list(by) if isinstance(by, (list, tuple)) else [by]

@@ -12,7 +12,6 @@ from typing import Any, Iterable, Sequence
 
 from . import exact, program
 from .advice import LARGEST
-from .answers import Verdict
 from .faults import BadData
 from .tables import Table
 
@@ -90,25 +89,24 @@ def on_budget_lines(table: Table, seed: Any) -> Table:
 
 
 def on_budgets_of(panel: Any, count: int = 1000, seed: Any = 1) -> list[Table]:
-    """Returns so many behaviours on the budgets of a panel: each household that has a verdict in turn, all from one seed."""
-    own = [Budgets(row.verdict.table) for row in panel if row.verdict is not None]
+    """Returns so many behaviours on the budgets of a panel: each household that has verdicts in turn, all from one seed."""
+    own = [Budgets(row.table) for row in panel if row.fault is None]
     if not own:
         raise BadData("no household of this panel has a verdict, so there are no budgets")
     words = Words(seed)
     return [own[number % len(own)].drawn(words) for number in range(program.whole(count, "count", 0, 1_000_000))]
 
 
-def verdicts(panel: Any, count: int = 1000, seed: Any = 1, *, exe: Any = None, workers: Any = None) -> list[Verdict]:
-    """Returns the verdicts on `on_budgets_of`: the benchmark beside the figure of Choi, Fisman, Gale and Kariv (2007)."""
-    from .panels import answers_on
+def verdicts(panel: Any, count: int = 1000, seed: Any = 1, *, exe: Any = None, workers: Any = None) -> list[Any]:
+    """Returns the Row of each of `on_budgets_of`: the benchmark beside the figure of Choi, Fisman, Gale and Kariv (2007)."""
+    from .panels import of_tables
 
-    return answers_on(on_budgets_of(panel, count, seed), workers, exe)
+    return of_tables(on_budgets_of(panel, count, seed), workers, exe)
 
 
 def share_above(answers: Iterable[Any], level: Any) -> Fraction:
-    """Returns the share of some verdicts, or of the verdicts of a panel, whose efficiency index is above a level, exactly."""
-    found = [getattr(it, "verdict", it) for it in answers]
-    indices = [it.efficiency for it in found if it is not None]
+    """Returns the share of some verdicts, or of the rows of a panel, whose efficiency index is above a level, exactly."""
+    indices = [it.efficiency for it in answers if it.efficiency is not None]
     least = exact.fraction_of(level)
     if not indices or least is None:
         raise BadData("a share is of one verdict or more, above a level such as 0.9 or '0.95'")

@@ -38,11 +38,12 @@ class Library:
             self.answer = loaded.rp_answer
         except (OSError, AttributeError, ValueError) as wrong:
             raise NoProgram(f"{path} is no library of rp: {wrong}") from wrong
-        # Libraries up to 0.13.0 have not the wider call.
+        # Libraries up to 0.13.0 have not the wider call, and those up to 0.14.0 not that of panels.
         self.wider: Any = getattr(loaded, "rp_answer_wide", None)
+        self.panels: Any = getattr(loaded, "rp_panel", None)
         text, size, number = ctypes.c_char_p, ctypes.c_size_t, ctypes.POINTER(ctypes.c_uint64)
         room = ctypes.POINTER(ctypes.c_char)
-        for call in filter(None, (self.answer, self.wider)):
+        for call in filter(None, (self.answer, self.wider, self.panels)):
             call.argtypes = [text, size, text, size, number, size, text, size, room, size, room, size, number, number]
             call.restype = ctypes.c_int32
         self.rooms = threading.local()
@@ -54,6 +55,10 @@ class Library:
     def run_wide(self, program: str, words: Sequence[str], files: Mapping[str, bytes]) -> tuple[int, bytes, bytes]:
         """Returns the same of the wider call, which the library has to have."""
         return self._called(self.wider, words, files)
+
+    def run_panel(self, program: str, words: Sequence[str], files: Mapping[str, bytes]) -> tuple[int, bytes, bytes]:
+        """Returns the same of the call of panels, which the library has to have."""
+        return self._called(self.panels, words, files)
 
     def _called(self, call: Any, words: Sequence[str], files: Mapping[str, bytes]) -> tuple[int, bytes, bytes]:
         said = b"".join(word.encode() + b"\0" for word in words)

@@ -1,9 +1,10 @@
-"""A long file of many households, CSV or Parquet, read once: the records of each household, with memory that does not grow with
-the file.
+"""A long file of many households, CSV or Parquet, read once and cut into blocks of whole records, a household in one block, with
+memory that does not grow with the file. No number of it is read.
 
-Where the records of each household stand together, a household is handed on when the next one begins. The names that have come
-are kept in a temporary database of the system's disk, so that one that comes again is seen. Then all records go through such a
+Where the records of each household stand together, a household is handed on when the next one begins. The ids that have come are
+kept in a temporary database of the system's disk, so that one that comes again is seen. Then all records go through such a
 database, which puts those of each household together. It has no name in any folder: nothing of it is left, however the run ends.
+The records without a household come behind all others, as the call tells them.
 """
 
 from __future__ import annotations
@@ -11,22 +12,27 @@ from __future__ import annotations
 import csv
 import hashlib
 import io
-import marshal
 import sqlite3
-from operator import itemgetter
-from typing import Any, Callable, Iterator, Optional
+import tempfile
+from itertools import chain
+from typing import Any, Callable, Iterator, NamedTuple, Optional
 
+from .catalogue import LIMITS
 from .exact import text_of
+from .long_call import BLANKS, DECIDING, ID_BYTES
+from .program import joined
 
-# So many households make a block: what is handed to a processor at once, and what the parts of a cluster take in turn.
-BLOCK = 20
+# A block has so many households at most, or so many bytes of them: what is answered by one call, and what the parts of a cluster
+# take in turn.
+BLOCK, BYTES = 20, 1 << 21
 # How a file of Parquet begins, and how many of its records are taken at once.
 PARQUET = b"PAR1"
 RECORDS = 20_000
-# A household with more records than this is refused here; the program refuses it far earlier.
-MOST_RECORDS = 100_000
-SIDES = {"p_": "q_", "q_": "p_"}
-Household = tuple[int, str, list[Any], str]
+# A byte is a character: what is no text stands as it is.
+BYTE = "latin-1"
+MARK = "\xef\xbb\xbf"
+ENDS = ("\n", "\r")
+csv.field_size_limit(LIMITS["long.bytes"])
 
 
 class Stopped(Exception):
@@ -35,6 +41,36 @@ class Stopped(Exception):
 
 class Apart(Exception):
     """The records of a household do not stand together."""
+
+
+class Household(NamedTuple):
+    """A household, by its id: the numbers of its records, from 1, and their texts, no more than decide. Without an id it is records
+    of none."""
+
+    id: str
+    numbers: list[int]
+    texts: list[str]
+
+
+class Block(NamedTuple):
+    """Households that are answered by one call, after so many others and so many rows before."""
+
+    number: int
+    rows: int
+    households: list[Household]
+
+    def ids(self) -> list[str]:
+        return [it.id for it in self.households if it.id]
+
+    def unnamed(self) -> int:
+        """Returns how many records have no household."""
+        return sum(len(it.numbers) for it in self.households if not it.id)
+
+    def numbers(self) -> list[int]:
+        return [number for it in self.households for number in it.numbers[:DECIDING]]
+
+    def data(self, header: str) -> bytes:
+        return "".join(chain([header], *(it.texts for it in self.households))).encode(BYTE)
 
 
 class Summed(io.RawIOBase):
@@ -63,51 +99,44 @@ def sum_of(file: str) -> str:
     return summed.hexdigest()
 
 
-class Columns:
-    """Which columns of a long table have the household, and which are its table's: obs, prices, quantities and levels."""
+def records_of(lines: Iterator[str]) -> Iterator[tuple[str, list[str]]]:
+    """Yields each record of a CSV file as it stands, to the end of its line, and its fields, as `csv` of Rust reads them."""
+    for line in lines:
+        if '"' not in line:
+            text, fields = line, line.rstrip("\r\n").split(",")
+            if fields == [""]:
+                continue
+        else:
+            taken: list[str] = []
+            fields = next(csv.reader(noted(chain([line], lines), taken)))
+            text = "".join(taken)
+        # The last record may end without an end of its line, and within quotes, where that end is a part of its last field.
+        is_whole = text.endswith(ENDS) and not fields[-1].endswith(ENDS)
+        yield text if is_whole else f"{quoted(fields)}\n", fields
 
-    def __init__(self, file: str, header: list[str], name: str) -> None:
-        header = [it.strip() for it in header]
-        if len(header) == 1 and any(mark in header[0] for mark in ";\t"):
-            mark = "semicolons" if ";" in header[0] else "tabs"
-            raise Stopped(f"{file}: its fields are separated by {mark}; save it with commas, and with points in numbers")
-        if name not in header:
-            raise Stopped(f"{file}: no column {name}; its columns are {', '.join(header)}: name that of the households by --id NAME")
-        if header.count(name) > 1:
-            raise Stopped(f"{file}: there are {header.count(name)} columns {name}")
-        self.width, self.place = len(header), header.index(name)
-        kept = [at for at, it in enumerate(header) if at != self.place and (it in ("obs", "e") or it[:2] in SIDES)]
-        self.header = [header[at] for at in kept]
-        self.left_out = [it for at, it in enumerate(header) if at not in kept and at != self.place]
-        for it in self.header:
-            partner = SIDES.get(it[:2], "") + it[2:]
-            if it[:2] in SIDES and partner not in self.header:
-                raise Stopped(f"{file}: the column {it} has no partner {partner}: a good has a price p_NAME and a quantity q_NAME")
-            if self.header.count(it) > 1:
-                raise Stopped(f"{file}: there are {self.header.count(it)} columns {it}")
-        if not any(it[:2] in SIDES for it in self.header):
-            raise Stopped(f"{file}: there is no good: no columns p_NAME and q_NAME among {', '.join(header)}")
-        self.own = itemgetter(*kept)
 
-    def row(self, record: list[str]) -> Any:
-        """Returns the fields of a record that are its table's, and None where there are too few or too many to tell."""
-        if len(record) == self.width:
-            return self.own(record)
-        return None if self.left_out else [*record[: self.place], *record[self.place + 1 :]]
+def quoted(fields: list[str]) -> str:
+    return ",".join('"' + it.replace('"', '""') + '"' for it in fields)
+
+
+def noted(lines: Iterator[str], taken: list[str]) -> Iterator[str]:
+    for line in lines:
+        taken.append(line)
+        yield line
 
 
 class LongFile:
-    """A long file, while it is read."""
+    """A long file, while it is read. `header` is the text of its names of columns, `place` where the ids are."""
 
     def __init__(self, file: str, name: str) -> None:
         self.file, self.name = file, name
-        self.columns: Optional[Columns] = None
+        self.header, self.names, self.place = "", [""], 0
         # What says how much of it was read; and when all was, its checksum.
         self.read: Callable[[], float] = float
         self.sum = ""
 
-    def records(self) -> Iterator[tuple[str, Any]]:
-        """Yields the household's name and the fields of each record."""
+    def texts(self) -> Iterator[tuple[str, list[str]]]:
+        """Yields the text and the fields of each record, that of the names of columns first."""
         with open(self.file, "rb", buffering=0) as raw:
             if raw.read(len(PARQUET)) == PARQUET:
                 yield from self._of_parquet()
@@ -115,51 +144,61 @@ class LongFile:
             size = max(raw.seek(0, io.SEEK_END), 1)
             raw.seek(0)
             summed = Summed(raw)
-            lines = csv.reader(io.TextIOWrapper(io.BufferedReader(summed, 1 << 18), "utf-8-sig", newline=""), strict=True)
+            lines = io.TextIOWrapper(io.BufferedReader(summed, 1 << 18), BYTE, newline="")
+            self.read = lambda: summed.taken / size
+            first = next(lines, "")
             try:
-                self.read = lambda: summed.taken / size
-                yield from self._of(lines)
-                self.sum = summed.sum.hexdigest()
-            except UnicodeDecodeError:
-                raise Stopped(f"{self.file}: this is no text in UTF-8; save it as CSV in UTF-8") from None
-            except csv.Error as error:
-                raise Stopped(f"{self.file}: line {lines.line_num}: {error}") from None
+                yield from records_of(chain([first.removeprefix(MARK)] if first else [], lines))
+            except csv.Error as wrong:
+                raise Stopped(f"{self.file}: a record has no end ({wrong}): is there a quote that is not closed?") from None
+            self.sum = summed.sum.hexdigest()
 
-    def _of(self, lines: Any) -> Iterator[tuple[str, Any]]:
-        header = next((record for record in lines if record), None)
-        if header is None:
-            raise Stopped(f"{self.file}: the file is empty")
-        columns = self.columns = Columns(self.file, header, self.name)
-        place, any_yet = columns.place, False
-        for record in lines:
-            if not record:
-                continue
-            if len(record) <= place:
-                raise Stopped(f"{self.file}: line {lines.line_num}: {len(record)} fields, where column {place + 1} has the household")
-            any_yet = True
-            yield record[place], columns.row(record)
-        if not any_yet:
-            raise Stopped(f"{self.file}: there is no record under the column names")
+    def begin(self) -> Iterator[tuple[str, list[str]]]:
+        """Reads the names of the columns, and returns what yields the records."""
+        found = self.texts()
+        self.header, names = next(found, ("", [""]))
+        self.names = [it.strip(BLANKS) for it in names]
+        own = self.name.encode("utf-8", "surrogateescape").decode(BYTE)
+        self.place = self.names.index(own) if own in self.names else -1
+        return found
 
-    def _of_parquet(self) -> Iterator[tuple[str, Any]]:
+    def first(self) -> bytes:
+        """Returns the names of the columns and the first record, by which the call tells what is wrong with the file as a whole."""
+        found = self.begin()
+        return (self.header + next(found, ("", []))[0]).encode(BYTE)
+
+    def records(self) -> Iterator[tuple[int, str, str]]:
+        """Yields the number of each record, the id of its household, which is empty where it has none that is taken, and its text."""
+        found = self.begin()
+        width, place = len(self.names), self.place
+        for number, (text, fields) in enumerate(found, 1):
+            if len(fields) != width:
+                what = f"it has {len(fields)} fields, and there are {width} names of columns"
+                raise Stopped(f"{self.file}: Ragged record {number}: {what}; nothing is completed or cut: mend the record")
+            own = fields[place].strip(BLANKS)
+            yield number, own if len(own) <= ID_BYTES else "", text
+
+    def _of_parquet(self) -> Iterator[tuple[str, list[str]]]:
         """Yields the same of a file of Parquet, whose numbers become texts without rounding."""
         try:
             from pyarrow.parquet import ParquetFile
         except ImportError:
             raise Stopped(f"{self.file}: this is Parquet, which is read where pyarrow is there: install it, or write the file as CSV") from None
         file = ParquetFile(self.file)
-        columns = self.columns = Columns(self.file, list(file.schema_arrow.names), self.name)
-        own, done = {it.strip(): it for it in file.schema_arrow.names}, 0
-        names = [own[it] for it in (self.name, *columns.header)]
+        names, done = list(file.schema_arrow.names), 0
         self.read = lambda: done / max(file.metadata.num_rows, 1)
+        yield line(names)
         for batch in file.iter_batches(batch_size=RECORDS, columns=names):
             lists = batch.to_pydict()
             done += len(lists[names[0]])
-            for household, *fields in zip(*(lists[name] for name in names)):
-                yield text(household), list(map(text, fields))
-        if not done:
-            raise Stopped(f"{self.file}: there is no record under the column names")
+            for values in zip(*(lists[name] for name in names)):
+                yield line([text(value) for value in values])
         self.sum = sum_of(self.file)
+
+
+def line(fields: list[str]) -> tuple[str, list[str]]:
+    own = [it.encode("utf-8", "surrogateescape").decode(BYTE) for it in fields]
+    return f"{joined(own)}\n", own
 
 
 def text(value: Any) -> str:
@@ -167,34 +206,7 @@ def text(value: Any) -> str:
     return value if isinstance(value, str) else text_of(value)
 
 
-def first_columns(file: str, name: str) -> Columns:
-    """Returns the columns of a file, after a look at its first records."""
-    long = LongFile(file, name)
-    records = long.records()
-    next(records)
-    records.close()  # type: ignore[attr-defined]
-    assert long.columns is not None
-    return long.columns
-
-
-def grouped(records: Iterator[tuple[str, Any]]) -> Iterator[Household]:
-    """Yields the households of records that stand together: number, name, records, and why there are no records to answer."""
-    number, last, fault = 0, None, ""
-    rows: list[Any] = []
-    for name, row in records:
-        if name != last:
-            if last is not None:
-                yield number, last, rows, fault
-            number, last, rows, fault = number + 1, name, [], ""
-        if len(rows) >= MOST_RECORDS:
-            fault = fault or f"more than {MOST_RECORDS:,} records"
-        elif row is None:
-            fault = fault or f"record {len(rows) + 1}: its fields are not as many as the column names"
-            rows.append(())
-        else:
-            rows.append(row)
-    if last is not None:
-        yield number, last, rows, fault
+# ---- households
 
 
 def temporary() -> sqlite3.Connection:
@@ -205,17 +217,62 @@ def temporary() -> sqlite3.Connection:
     return base
 
 
+def no_room(wrong: sqlite3.Error) -> Stopped:
+    """Returns what is told where the temporary database cannot be written."""
+    return Stopped(
+        f"the temporary folder ({tempfile.gettempdir()}) does not take what is kept of the file there ({wrong}): make room in it, or name"
+        " another one by SQLITE_TMPDIR and TMPDIR, and start again"
+    )
+
+
+class Unnamed:
+    """The records without a household, in a temporary database until all others have come."""
+
+    def __init__(self, base: sqlite3.Connection) -> None:
+        self.base = base
+        base.execute("CREATE TABLE unnamed (number INTEGER PRIMARY KEY, it TEXT)")
+
+    def put(self, number: int, record: str) -> None:
+        self.base.execute("INSERT INTO unnamed VALUES (?, ?)", (number, record))
+
+    def households(self) -> Iterator[Household]:
+        """Yields each record for itself."""
+        for number, record in self.base.execute("SELECT number, it FROM unnamed ORDER BY number"):
+            yield Household("", [number], [record])
+
+
+def grouped(records: Iterator[tuple[int, str, str]], unnamed: Optional[Unnamed]) -> Iterator[Household]:
+    """Yields the households of records that stand together. Of one with more records than a table has, no more are kept than show
+    it, since nothing else of it is looked at then."""
+    last: Optional[Household] = None
+    for number, own, record in records:
+        if not own and unnamed is not None:
+            unnamed.put(number, record)
+            continue
+        if last is None or own != last.id:
+            if last is not None:
+                yield last
+            last = Household(own, [], [])
+        if len(last.texts) < DECIDING:
+            last.numbers.append(number)
+            last.texts.append(record)
+    if last is not None:
+        yield last
+
+
 def together(long: LongFile) -> Iterator[Household]:
     """Yields the households of a file as they stand; raises Apart where one comes again."""
     base = temporary()
-    base.execute("CREATE TABLE name (it BLOB PRIMARY KEY) WITHOUT ROWID")
+    base.execute("CREATE TABLE name (it TEXT PRIMARY KEY) WITHOUT ROWID")
+    unnamed = Unnamed(base)
     base.execute("BEGIN")
-    for household in grouped(long.records()):
+    for household in grouped(long.records(), unnamed):
         try:
-            base.execute("INSERT INTO name VALUES (?)", (household[1].encode(),))
+            base.execute("INSERT INTO name VALUES (?)", (household.id,))
         except sqlite3.IntegrityError:
-            raise Apart(household[1]) from None
+            raise Apart(shown(household.id)) from None
         yield household
+    yield from unnamed.households()
 
 
 class Gathered:
@@ -223,33 +280,45 @@ class Gathered:
 
     def __init__(self, long: LongFile) -> None:
         self.base = temporary()
-        self.base.execute("CREATE TABLE name (it BLOB PRIMARY KEY, number INTEGER) WITHOUT ROWID")
-        self.base.execute("CREATE TABLE record (household INTEGER, fields BLOB)")
+        self.unnamed = Unnamed(self.base)
+        self.base.execute("CREATE TABLE name (it TEXT PRIMARY KEY, number INTEGER) WITHOUT ROWID")
+        self.base.execute("CREATE TABLE record (household INTEGER, number INTEGER, id TEXT, it TEXT)")
         self.base.execute("BEGIN")
-        count, last, number = 0, None, 0
-        for name, row in long.records():
-            if name != last:
-                found = self.base.execute("SELECT number FROM name WHERE it = ?", (name.encode(),)).fetchone()
+        count, last, of = 0, "", 0
+        for number, own, record in long.records():
+            if not own:
+                self.unnamed.put(number, record)
+                continue
+            if own != last:
+                found = self.base.execute("SELECT number FROM name WHERE it = ?", (own,)).fetchone()
                 if found is None:
                     count += 1
-                    self.base.execute("INSERT INTO name VALUES (?, ?)", (name.encode(), count))
-                last, number = name, found[0] if found else count
-            self.base.execute("INSERT INTO record VALUES (?, ?)", (number, marshal.dumps((name, row))))
+                    self.base.execute("INSERT INTO name VALUES (?, ?)", (own, count))
+                last, of = own, found[0] if found else count
+            self.base.execute("INSERT INTO record VALUES (?, ?, ?, ?)", (of, number, own, record))
         pages, page = (self.base.execute(f"PRAGMA {it}").fetchone()[0] for it in ("page_count", "page_size"))
         self.size, self.count = pages * page, count
 
     def households(self) -> Iterator[Household]:
-        found = self.base.execute("SELECT fields FROM record ORDER BY household, rowid")
-        return grouped(marshal.loads(fields) for (fields,) in found)
+        found = self.base.execute("SELECT number, id, it FROM record ORDER BY household, number")
+        return chain(grouped(found, None), self.unnamed.households())
 
 
-def blocks(households: Iterator[Household]) -> Iterator[list[Household]]:
-    """Yields the households in blocks, of which the last one may be shorter."""
+def blocks(households: Iterator[Household]) -> Iterator[Block]:
+    """Yields the households in blocks."""
+    number = rows = size = 0
     block: list[Household] = []
     for household in households:
+        more = sum(map(len, household.texts))
+        if block and (len(block) == BLOCK or size + more > BYTES):
+            yield Block(number, rows, block)
+            number, rows, size, block = number + 1, rows + len(block), 0, []
         block.append(household)
-        if len(block) == BLOCK:
-            yield block
-            block = []
+        size += more
     if block:
-        yield block
+        yield Block(number, rows, block)
+
+
+def shown(name: str) -> str:
+    """Returns an id as it is told, whatever bytes it has."""
+    return repr(name.encode(BYTE).decode("utf-8", "replace"))

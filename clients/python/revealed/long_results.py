@@ -1,22 +1,25 @@
-"""The results of a long panel while they come: a file of records, a file of checksums beside it, and perhaps an archive.
+"""The results of a long panel while they come: a file of rows, a file of checksums beside it, and perhaps an archive.
 
-The checksums say for each household of which table its record is, what the record is, and where it ends. A later start reads
-them, takes what stands, and goes on behind it. At the end the files get their names.
+The checksums say for each block of households of which bytes its rows are, what the rows are, how many, and where they end. A later
+start reads them, takes what stands, and goes on behind it. At the end the files get their names.
 """
 
 from __future__ import annotations
 
+import contextlib
 import hashlib
+import itertools
 import json
 import os
+import shutil
 import struct
 import tarfile
-from typing import IO, Any, Iterator, Optional
+from typing import IO, Any, Optional
 
 from .long_files import Stopped, sum_of
 
-# The checksum of the table, that of the record, and where the record and the archive's part of it end.
-ENTRY = struct.Struct("<16s16sQQ")
+# The checksum of what was asked, that of the rows, where these and the archive's part of them end, and how many rows there are.
+ENTRY = struct.Struct("<16s16sQQQ")
 
 
 def small(data: bytes) -> bytes:
@@ -38,18 +41,24 @@ class Results:
 
     def __init__(self, target: str, archive: Optional[str], head: dict[str, Any], first: bytes) -> None:
         self.target, self.archive = target, archive
-        self.part, self.sums = f"{target}.part", f"{target}.part.sums"
+        self.part, self.sums, self.folder = (f"{target}.part", f"{target}.part.sums", f"{target}.part.blocks")
+        self.first = len(first)
         self.head = json.dumps(head, sort_keys=True).encode() + b"\n"
         self.standing: Optional[IO[bytes]] = None
         self.files: list[int] = []
         self.end = self.tar_end = 0
-        self.count = 0
+        # How many blocks stand, how many rows, and of each block how many rows and bytes.
+        self.count = self.rows = 0
+        self.blocks: list[tuple[int, int]] = []
         goes_on = os.path.exists(self.sums)
         for file in (self.sums, self.part, *([f"{archive}.part"] if archive else [])):
             if not goes_on and os.path.lexists(file):
                 raise Stopped(f"{file}: this is there already, and no run is known that left it: remove it, or name another file")
             self.files.append(os.open(file, os.O_RDWR | os.O_CREAT | getattr(os, "O_BINARY", 0), 0o666))
         self._alone()
+        # Of a run that was killed the files of its processes are left.
+        if os.path.isdir(self.folder) and not os.path.islink(self.folder):
+            shutil.rmtree(self.folder)
         if not (goes_on and self._stand(first)):
             for place in self.files:
                 os.ftruncate(place, 0)
@@ -88,10 +97,11 @@ class Results:
             for entry in iter(lambda: sums.read(ENTRY.size), b""):
                 if len(entry) < ENTRY.size:
                     break
-                _, record, end, tar_end = ENTRY.unpack(entry)
+                _, record, end, tar_end, rows = ENTRY.unpack(entry)
                 if end <= self.end or tar_end > tar_size or small(part.read(end - self.end)) != record:
                     break
-                self.count, self.end, self.tar_end = self.count + 1, end, tar_end
+                self.blocks.append((rows, end - self.end))
+                self.count, self.rows, self.end, self.tar_end = (self.count + 1, self.rows + rows, end, tar_end)
         for place, length in zip(self.files, [len(head) + self.count * ENTRY.size, self.end, self.tar_end]):
             os.ftruncate(place, length)
             os.lseek(place, 0, os.SEEK_END)
@@ -100,7 +110,7 @@ class Results:
         return True
 
     def known(self) -> Optional[bytes]:
-        """Returns the checksum of the table of the next household whose record stands, and None behind the last one."""
+        """Returns the checksum of what was asked of the next block whose rows stand, and None behind the last one."""
         entry = self.standing.read(ENTRY.size) if self.standing is not None else b""
         if len(entry) == ENTRY.size:
             return bytes(entry[:16])
@@ -116,19 +126,17 @@ class Results:
         except ValueError:
             return "other words"
 
-    def add(self, number: int, table: bytes, record: bytes, kept: list[tuple[str, bytes]]) -> bytes:
-        """Writes what is kept of a household, and returns its entry; the record is written with others by `write`."""
+    def add(self, first: int, asked: bytes, rows: bytes, kept: list[tuple[int, list[tuple[str, bytes]]]], count: int) -> None:
+        """Writes the rows of a block, of which there are so many after the first ones, and what is kept of them."""
         if self.archive:
-            data = b"".join(member(f"{number:07}/{name}", it) for name, it in kept)
+            data = b"".join(member(f"{first + at + 1:07}/{name}", it) for at, files in kept for name, it in files)
             put(self.files[2], data, f"{self.archive}.part")
             self.tar_end += len(data)
-        self.end += len(record)
-        return ENTRY.pack(table, small(record), self.end, self.tar_end)
-
-    def write(self, records: bytes, entries: bytes) -> None:
-        put(self.files[1], records, self.part)
-        put(self.files[0], entries, self.sums)
-        self.count += len(entries) // ENTRY.size
+        self.end += len(rows)
+        put(self.files[1], rows, self.part)
+        put(self.files[0], ENTRY.pack(asked, small(rows), self.end, self.tar_end, count), self.sums)
+        self.blocks.append((count, len(rows)))
+        self.count, self.rows = self.count + 1, self.rows + count
 
     def drop(self) -> None:
         """Removes everything, as where nothing of it is of use."""
@@ -154,7 +162,7 @@ class Results:
             os.fsync(place)
         self.close()
         if done is not None:
-            told = {**json.loads(self.head), **done, "sum": sum_of(self.part)}
+            told = {**json.loads(self.head), **done, "first": self.first, "blocks": self.blocks, "sum": sum_of(self.part)}
             with open(f"{self.target}.json.part", "w", encoding="utf-8") as it:
                 json.dump(told, it, sort_keys=True)
             os.replace(f"{self.target}.json.part", f"{self.target}.json")
@@ -195,21 +203,31 @@ def is_apart(target: str) -> bool:
 
 
 def begun(target: str) -> int:
-    """Returns how many households a run that did not end has left, and -1 where there was none."""
+    """Returns how many rows a run that did not end has left, and -1 where there was none."""
     try:
         with open(f"{target}.part.sums", "rb") as it:
-            head = it.readline()
-            return (os.fstat(it.fileno()).st_size - len(head)) // ENTRY.size
+            it.readline()
+            entries = iter(lambda: it.read(ENTRY.size), b"")
+            return sum(ENTRY.unpack(entry)[4] for entry in entries if len(entry) == ENTRY.size)
     except OSError:
         return -1
 
 
-def interleaved(parts: list[Iterator[Any]], block: int) -> Iterator[Any]:
-    """Yields so many records of each part in turn, until all are at their end."""
-    left = True
-    while left:
-        left = False
-        for part in parts:
-            for _, record in zip(range(block), part):
-                left = True
-                yield record
+def through(target: str) -> str:
+    """Returns where a result is written: what a link leads to, which stays a link."""
+    if not os.path.islink(target):
+        return target
+    led = os.path.realpath(target)
+    if os.path.islink(led):
+        raise Stopped(f"{target}: this link leads to itself: name another file")
+    return led
+
+
+def copied(parts: list[str], first: int, blocks: list[list[tuple[int, int]]], file: str) -> None:
+    """Writes the names of the columns, which have so many bytes, and the rows of all parts, a block of each in turn."""
+    with open(file, "wb") as it, contextlib.ExitStack() as stack:
+        opened = [stack.enter_context(open(name, "rb")) for name in parts]
+        it.write([own.read(first) for own in opened][0])
+        for turn in itertools.zip_longest(*blocks):
+            for own, block in zip(opened, turn):
+                it.write(own.read(block[1]) if block is not None else b"")

@@ -1,125 +1,168 @@
-"""A panel: the verdict on each household, subject or region of one long frame, on all processors, or on those of a cluster.
+"""A panel: the row of each household, subject or region of one long frame, on all processors, or on those of a cluster.
 
-The calls are those of long files (`long_answers.py`), by the same processes; here their answers become objects.
+The frame becomes long texts with a column of ids, households in blocks, and the rows are those of the call (`long_call.py`).
 """
 
 from __future__ import annotations
 
 import os
-import sys
-from collections import deque
-from functools import partial
-from typing import Any, Callable, Iterable, Iterator, Sequence
+from fractions import Fraction
+from typing import Any, Iterable, Iterator, NamedTuple, Sequence
 
 from . import clusters, exact, program
-from .advice import PRICES, QUANTITIES, Kinds
-from .answers import Certificate, Verdict
+from .advice import LEVELS, PANEL_HINTS, PRICES, QUANTITIES, Kinds
+from .answers import Verdict
 from .catalogue import DRAWS, SEED
-from .commands import refusal
-from .faults import AllRefused, BadData, Failed, NoProgram, Pooled, Problem, Refused, WrongColumns
+from .commands import analyse
+from .exact import AS_THEY_ARE
+from .faults import AllRefused, BadData, NoProgram, Pooled, Refused, WrongColumns
 from .frames import Frame, near, own_labels, prices_of, values_of
-from .long_answers import ASKED, STATED, Here, Pool
-from .long_files import BLOCK, Stopped
-from .measures import MoneyPump, Power
-from .tables import OWN_MONEY, Forms, Table, as_taken, forms_of
-from .wider import Ended
+from .long_call import BLANKS, COLUMNS, DECIDING, ID_BYTES, LONG, Asked, answered, in_turn, line_of
+from .tables import OWN_MONEY, Forms, Sheet, Table, as_taken, forms_of
 
-
-# Fewer households than this are done before other processes have begun: by the program, and by its library.
-FEW, FEW_CALLS = 50, 500
-VERDICTS = ("garp", "afriat", "efficiency", "ccei", "attained", "homothetic", "quasilinear")
+# Fewer households than this are asked about by this thread alone, and no more in one call.
+FEW, BLOCK = 50, 200
+HOUSEHOLD = "household"
+KEYS = "ids"
+# Without this hint a number that no decimal is has a text that is refused as it is.
+ENDLESS, TOO_LONG = "0.3333333", {"TooLarge": "9" * 30, "TooManyDecimals": "0." + "3" * 30}
+TRUTH = {"holds": True, "violated": False, "yes": True, "no": False}
 
 
 class Row:
-    """The answer for one household: its `key`, and its `verdict`, or the `refusal` of its data, or how the program failed.
+    """The row of a household: its `key`, and under the names of the columns of a panel what the call says of it.
 
-    `money_pump` and `power` are there where they were asked for; where one was refused or failed, `missing` says why under its
-    name.
+    `garp`, `homothetic`, `quasilinear` and `attained` are True or False, and None where the verdict is withheld or there is none;
+    `efficiency`, `pump` and `power` are Fractions, and with `_floor` behind their names numbers of six places, rounded down.
+    `fault` is None, or why there are no verdicts, with the `record`, from 1, and the `column` of the frame; `refusal` tells it in
+    words. `verdict` is the Verdict with its certificate, which is asked for when it is looked at.
     """
 
-    def __init__(self, key: Any, verdict: Verdict | None = None, refusal: Exception | None = None, failure: Failed | None = None) -> None:
+    def __init__(self, key: Any, texts: Sequence[str], own: _Household, refusal: Exception | None = None) -> None:
         self.key = key
-        self.verdict = verdict
+        self.texts = dict(zip(COLUMNS, texts))
         self.refusal = refusal
-        self.failure = failure
-        self.money_pump: MoneyPump | None = None
-        self.power: Power | None = None
-        self.missing: dict[str, str] = {}
+        self._own = own
+        self._verdict: Verdict | None = None
+        it = self.texts
+        self.observations, self.goods, self.record, self.column = (_whole(it[name]) for name in ("observations", "goods", "record", "column"))
+        self.garp, self.attained, self.homothetic = (TRUTH.get(it[name]) for name in ("garp", "attained", "homothetic"))
+        self.quasilinear = None if self.own_money else TRUTH.get(it["quasilinear"])
+        self.efficiency, self.pump, self.power = (_fraction(it[name]) for name in ("efficiency", "pump", "power"))
+        self.efficiency_floor, self.pump_floor = (_number(it[name]) for name in ("efficiency_floor", "pump_floor"))
+        self.fault: str | None = it["fault"] or None
+
+    @property
+    def ccei(self) -> float | None:
+        """The nearest double to the index, but below 1 where the index is."""
+        return None if self.efficiency is None else exact.nearest_double(self.efficiency)
+
+    @property
+    def own_money(self) -> bool:
+        """Whether its prices are intercepts exchanged, so that each of its rows has money of its own."""
+        return self._own.panel.own_money
+
+    @property
+    def table(self) -> Table:
+        """The household's own table."""
+        return self._own.table()
+
+    @property
+    def verdict(self) -> Verdict | None:
+        """The verdicts with their certificate, by a call for this household alone; None where it has a fault."""
+        if self._verdict is None and self.fault is None:
+            own = self._own.panel
+            self._verdict = analyse(self.table, exe=own.exe, wide=own.asked.wide)
+        return self._verdict
 
     @property
     def status(self) -> int:
-        """The program's status: 0 with a verdict, 4 with a refusal."""
-        if self.verdict is not None:
-            return 0
-        return self.failure.status if self.failure is not None else 4
+        """The program's status: 0 with verdicts, 4 with a fault."""
+        return 0 if self.fault is None else 4
 
     @property
     def message(self) -> str:
-        """Why there is no verdict, or why a part of it is not there."""
-        if self.verdict is None:
-            return str(self.refusal or self.failure)
-        return "; ".join(f"{name}: {why}" for name, why in {**self.verdict.reasons, **self.missing}.items())
+        """Why there are no verdicts, or none of a test."""
+        if self.fault is not None:
+            return str(self.refusal)
+        why = {"homothetic": "withheld" if self.texts["homothetic"] == "withheld" else "", "quasilinear": OWN_MONEY if self.own_money else ""}
+        return "; ".join(f"{name}: {said}" for name, said in why.items() if said)
+
+    def count_own(self) -> None:
+        """Counts the record of a fault among the household's own rows."""
+        if self.record is not None:
+            self.record = self._own.places.index(self.record - 1) + 1
+            self.texts["record"] = str(self.record)
+
+    def values(self) -> list[Any]:
+        """Returns what the columns behind the household's have, as values of Python."""
+        return [getattr(self, name) for name in COLUMNS[1:]]
 
     def __repr__(self) -> str:
-        return f"{self.key!r}: {self.message if self.verdict is None else ' '.join(repr(self.verdict).splitlines())}"
+        told = [f"{name} {self.texts[name]}" for name in COLUMNS[3:] if self.texts[name]]
+        return f"{self.key!r}: {self.message if self.fault is not None else ' '.join(told)}"
+
+
+def _told(number: int | None) -> str:
+    return "" if number is None else str(number)
+
+
+def _whole(text: str) -> int | None:
+    return int(text) if text else None
+
+
+def _fraction(text: str) -> Fraction | None:
+    return exact.fraction_read(text) if text else None
+
+
+def _number(text: str) -> float | None:
+    return float(text) if text else None
 
 
 class Panel(list):
-    """The Rows of a panel, in the order in which their keys first come. `asked` names what was asked beside the verdicts."""
+    """The Rows of a panel, in the order in which their keys first come, and behind them the records that no household has. `asked`
+    names what was asked beside the verdicts."""
 
     def __init__(self, by: Sequence[str], rows: Iterable[Row], asked: Sequence[str] = ()) -> None:
         super().__init__(rows)
         self.by = list(by)
         self.asked = list(asked)
 
-    def records(self) -> list[dict[str, Any]]:
-        """Returns a dictionary for each household: its key, status, verdicts and, where there is none, the reason.
-
-        `efficiency` and `pump_ratio` are exact, as Fractions; `ccei` and `pump` are the nearest floats; only 1 reads 1. `wide` names
-        the verdicts that `rp` itself withholds.
-        """
-        found = []
-        for row in self:
-            key = dict(zip(self.by, row.key if len(self.by) > 1 else [row.key]))
-            verdicts = {name: getattr(row.verdict, name, None) for name in VERDICTS}
-            wide = None if row.verdict is None else " ".join(row.verdict.wide)
-            record = {**key, "status": row.status, **verdicts, "wide": wide}
-            if "pump" in self.asked:
-                record["pump_ratio"] = getattr(row.money_pump, "ratio", None)
-                record["pump"] = getattr(row.money_pump, "pump", None)
-            if "power" in self.asked:
-                record["power"] = getattr(row.power, "power", None)
-            found.append({**record, "message": row.message})
-        return found
-
     def names(self) -> list[str]:
-        """Returns the names of what a record has."""
-        more = {"pump": ["pump_ratio", "pump"], "power": ["power"]}
-        return [*self.by, "status", *VERDICTS, "wide", *(it for name in self.asked for it in more[name]), "message"]
+        """Returns the names of what a record has: the columns by which households are told apart, and those of each panel."""
+        return [*self.by, *COLUMNS[1:]]
+
+    def keys(self, row: Row) -> list[Any]:
+        return list(row.key) if len(self.by) > 1 else [row.key]
+
+    def records(self) -> list[dict[str, Any]]:
+        """Returns a dictionary for each row: its key, and the values that a Row has under the names of the columns."""
+        return [dict(zip(self.names(), [*self.keys(row), *row.values()])) for row in self]
+
+    def csv(self) -> bytes:
+        """Returns the table as the call writes it, with the columns by which households are told apart in place of `household`."""
+        lines = [line_of(list(map(str, self.names())))]
+        for row in self:
+            keys = ["" if exact.is_missing(key) else id_text(key).strip(BLANKS) for key in self.keys(row)]
+            lines.append(line_of([*keys, *(row.texts[name] for name in COLUMNS[1:])]))
+        return "".join(lines).encode("utf-8", "surrogateescape")
 
     def frame(self) -> Any:
         """Returns the records as a frame of pandas, which has to be there; BadData says what to install where it is not.
 
-        Verdicts are of its type `boolean`, in which what is withheld is missing and never False; the indices are `Float64`, and
-        the exact ones beside them, like the messages, texts.
+        Verdicts are of its type `boolean`, in which what is withheld is missing and never False; what ends in `_floor` is `Float64`;
+        fractions and faults are texts.
         """
         try:
             import pandas
         except ImportError as wrong:
             raise BadData(NO_PANDAS) from wrong
-        records = self.records()
-        columns = {name: [record[name] for record in records] for name in self.names()}
-        made = {}
-        for name, values in columns.items():
-            kind = KINDS.get(name)
-            if name in self.by or kind is None:
-                made[name] = pandas.Series(values, dtype=None if values else object)
-            elif kind == "string":
-                made[name] = pandas.array(
-                    [None if value is None else value if isinstance(value, str) else exact.written(value) for value in values], dtype=kind
-                )
-            else:
-                made[name] = pandas.array(values, dtype=kind)
+        columns = {name: [self.keys(row)[at] for row in self] for at, name in enumerate(self.by)}
+        made = {name: pandas.Series(values, dtype=None if values else object) for name, values in columns.items()}
+        for name in COLUMNS[1:]:
+            kind = KINDS[name]
+            values = [row.texts[name] or None if kind == "string" else getattr(row, name) for row in self]
+            made[name] = pandas.array(values, dtype=kind)
         return pandas.DataFrame(made)
 
     def to_stata(self, path: Any) -> None:
@@ -153,10 +196,10 @@ class Panel(list):
 
 NO_PANDAS = "a frame needs the package pandas, which is not here: pip install pandas; .records() has the same without it, and .text() and .latex() too"
 KINDS = {
-    **dict.fromkeys(("garp", "afriat", "attained", "homothetic", "quasilinear"), "boolean"),
-    **dict.fromkeys(("ccei", "pump", "power"), "Float64"),
-    **dict.fromkeys(("efficiency", "wide", "pump_ratio", "message"), "string"),
-    "status": "Int64",
+    **dict.fromkeys(("garp", "attained", "homothetic", "quasilinear"), "boolean"),
+    **dict.fromkeys(("efficiency_floor", "pump_floor"), "Float64"),
+    **dict.fromkeys(("efficiency", "pump", "power", "fault"), "string"),
+    **dict.fromkeys(("observations", "goods", "record", "column"), "Int64"),
 }
 
 
@@ -175,13 +218,15 @@ def panel(
     wide: bool = True,
     progress: bool = True,
 ) -> Panel:
-    """Returns the verdict on each household of a frame, whose column (or columns) `by` tells them apart, as a Panel.
+    """Returns the row of each household of a frame, whose column (or columns) `by` tells them apart, as a Panel.
 
-    A household whose data are refused gets its refusal, and the others go on; where all are refused for one cause, that is raised
-    (AllRefused), with what to do. `places` and `numbers` are those of `analyse`. `pump` asks for the money pump of each too, and
-    `power` for that of the test on each one's budgets, by so many draws with `seed`. A column `e` has levels, or `levels` gives
-    them, one for each row or one for all. `wide=False` asks the program alone, and not its wider edition. It runs on all processors, or on so many `workers`, and shows a bar where the package
-    `tqdm` is there and `progress` is left on. The rows of a household need not stand together.
+    Households are told apart by the texts of their keys, without the blanks round them; a row whose key is empty or missing is no
+    household's, and is told for itself. A household with a fault has it in its row, and the others go on; where all have the same,
+    that is raised (AllRefused), with what to do. `places` and `numbers` are those of `analyse`. `pump` asks for the greatest money
+    pump ratio of each too, and `power` for how many of so many random behaviours, drawn by `seed`, fail the axiom. A column `e` has
+    levels, or `levels` gives them, one for each row or one for all; with these neither is asked. `wide=False` asks the program as it
+    is, and not for what its wider edition gives. It runs on all processors, or on so many `workers`, and shows a bar where the
+    package `tqdm` is there and `progress` is left on. The rows of a household need not stand together.
 
     Of a frame of Dask it returns one of Dask, by partitions: the records of `Panel.frame()`, under the place of each household's
     first row, so that `.compute().sort_index()` has them in the order of the frame. `exe` is a path on each worker.
@@ -196,12 +241,12 @@ def panel(
     if clusters.is_dask(d):
         of_dask: Panel = clusters.of_dask(d, names, more)
         return of_dask
-    found = answered(d, names, workers, progress, **more)
+    found = answers(d, names, workers, progress, **more)
     stop_where_all_are_refused(found)
     return found
 
 
-def answered(
+def answers(
     d: Any,
     names: Sequence[Any],
     workers: Any,
@@ -216,41 +261,31 @@ def answered(
     exe: Any = None,
     wide: bool = True,
 ) -> Panel:
-    """Returns the Panel of a frame, whether or not any household has an answer."""
-    forms = forms_of(places, numbers)
-    library, path = program.way(exe)
-    asked = {**ASKED, "verdicts": "certify", "pump": bool(pump), "power": None if power is None else [seed, power]}
-    asked.update(rp=path, library=library is not None, wide=wide_of(exe) if wide else None, is_wide=wide)
-    groups = _groups(Frame(d), names, levels, forms, bool(pump))
-    rows = _bar(_rows(groups, asked, workers or _processors()), len(groups), progress)
-    return Panel(names, list(rows), [it for it in ("pump", "power") if asked[it]])
+    """Returns the Panel of a frame, whether or not any household has verdicts."""
+    asked = Asked(HOUSEHOLD, (), bool(pump), None if power is None else (power, seed), wide)
+    whole = LongFrame(Frame(d), names, levels, forms_of(places, numbers), asked, exe)
+    rows = _bar(whole.answers(workers or _processors()), len(whole.households) + len(whole.unnamed), progress)
+    return Panel(names, list(rows), [it for it, is_asked in (("pump", pump), ("power", power is not None)) if is_asked])
 
 
-def wide_of(exe: Any) -> Any:
-    """Returns the wider edition as the processes of a panel are told it: a path, True for the call of the library, or None."""
-    found = program.wide_way(exe)
-    return None if found is None else True if found[0] is not None else found[1]
-
-
-def answers_on(tables: Sequence[Table], workers: Any = None, exe: Any = None) -> list[Verdict]:
-    """Returns the verdict on each of some tables, by the processes of a panel."""
-    library, path = program.way(exe)
-    asked = {**ASKED, "verdicts": "certify", "rp": path, "library": library is not None, "wide": wide_of(exe), "is_wide": True}
-    groups = [(number, partial(_same, table)) for number, table in enumerate(tables, 1)]
-    found = []
-    for row in _rows(groups, asked, program.whole(workers or _processors(), "workers", 1, 1024)):
-        if row.verdict is None:
-            raise row.refusal or row.failure or Problem("there is no answer")
-        found.append(row.verdict)
-    return found
-
-
-def _same(table: Table) -> Table:
-    return table
+def of_tables(tables: Sequence[Table], workers: Any = None, exe: Any = None) -> list[Row]:
+    """Returns the row of each of some tables of the same goods, by the call of panels."""
+    columns: dict[str, list[Any]] = {"table": [number for number, own in enumerate(tables, 1) for _ in range(len(own))]}
+    goods = tables[0].goods if tables else []
+    for at, good in enumerate(goods):
+        columns[f"p_{good}"] = [row[at] for own in tables for row in own.prices]
+        columns[f"q_{good}"] = [row[at] for own in tables for row in own.quantities]
+    if not tables:
+        return []
+    found = answers(columns, ["table"], program.whole(workers or _processors(), "workers", 1, 1024), False, exe=exe)
+    for row in found:
+        if row.refusal is not None:
+            raise row.refusal
+    return list(found)
 
 
 def stop_where_all_are_refused(found: Panel) -> None:
-    """Raises the refusal of a panel whose households were all refused for one cause."""
+    """Raises the refusal of a panel whose rows all have one fault."""
     refusals = [row.refusal for row in found]
     causes = {getattr(it, "fault", type(it)) for it in refusals}
     if len(causes) != 1 or None in refusals:
@@ -261,107 +296,219 @@ def stop_where_all_are_refused(found: Panel) -> None:
     raise BadData(f"all {len(found)} households are refused for one cause, the first, {found[0].key!r}, since {first}")
 
 
-def _rows(groups: Sequence[tuple[Any, Callable[[], Table]]], asked: dict[str, Any], workers: int) -> Iterator[Row]:
-    """Yields the row of each household: by processes, where there are enough households for that to be worth it, or here."""
-    here = workers == 1 or len(groups) < (FEW_CALLS if asked["library"] else FEW) or not sys.executable
-    size = 1 if here else BLOCK
-    begun: deque[list[tuple[Row, Table | None]]] = deque()
+# ---- the long text
 
-    def blocks() -> Iterator[list[bytes]]:
-        for at in range(0, len(groups), size):
-            begun.append([_begin(key, own) for key, own in groups[at : at + size]])
-            yield [made.csv() for _, made in begun[-1] if made is not None]
 
-    pool: Here | Pool = Here(asked) if here else Pool(workers, asked)
+def id_text(key: Any) -> str:
+    """Returns the text of a key: a number that is whole has that of the whole number."""
+    if isinstance(key, float) and key.is_integer():
+        key = int(key)
+    return str(key)
+
+
+def id_of(keys: Sequence[Any]) -> str:
+    """Returns the id of a row: the text of its key, or of several as a record of CSV; empty where one is missing."""
+    if any(exact.is_missing(key) for key in keys):
+        return ""
+    texts = [id_text(key).strip(BLANKS) for key in keys]
+    if len(texts) == 1:
+        return texts[0]
+    return ",".join(map(program.field, texts)) if all(texts) else ""
+
+
+def is_id(text: str) -> bool:
+    """Whether an id is one that the program takes for a household's; refuses what is no text."""
     try:
-        pool.begin()
-        for _, answers in pool.each(blocks()):
-            left = iter(answers)
-            for row, made in begun.popleft():
-                if made is not None:
-                    _end(row, made, next(left), asked)
-                yield row
-    except OSError as wrong:
-        raise NoProgram(f"{asked['rp']} cannot be run: {wrong}") from wrong
-    except Stopped as stopped:
-        raise Problem(f"the panel did not come to its end: {stopped}") from None
-    finally:
-        pool.close()
+        return bool(text) and len(text.encode("utf-8", "surrogateescape")) <= ID_BYTES
+    except UnicodeEncodeError as wrong:
+        raise BadData(f"the name of a household is no text: {wrong}") from None
 
 
-def _begin(key: Any, own: Callable[[], Table]) -> tuple[Row, Table | None]:
-    """Returns the row of a household, and its table where there is one to be answered."""
-    try:
-        return Row(key), own()
-    except (Refused, Pooled) as wrong:
-        return Row(key, refusal=wrong), None
+class _Household(NamedTuple):
+    """A household of a long frame: its id and its key, and its rows, from 0."""
+
+    panel: LongFrame
+    id: str
+    key: Any
+    places: list[int]
+
+    def table(self) -> Table:
+        return self.panel.table(self.places)
 
 
-def _end(row: Row, made: Table, calls: dict[str, Ended], asked: dict[str, Any]) -> None:
-    """Puts into a row what the program said of its table."""
+class LongFrame(Sheet):
+    """A frame as a long file: a column of ids, prices, quantities, and perhaps levels. A household in one block."""
 
-    def explain(file: str | None, fault: str, places: dict[str, int]) -> Refused:
-        return made.refused(fault, places) if file == made.file else refusal(fault, file, places)
+    def __init__(self, frame: Frame, by: Sequence[Any], levels: Any, forms: Forms, asked: Asked, exe: Any) -> None:
+        missing = [name for name in by if name not in frame.columns]
+        if missing or not by:
+            raise WrongColumns([f"{name} (by)" for name in by] or ["by: a column that tells households apart"], frame.names, "panel")
+        taken = [name for name in by if name in COLUMNS[1:]]
+        if taken:
+            raise BadData(f"by: a panel has a column {taken[0]!r} of its own: give that of the households another name")
+        self.frame, self.by, self.asked, self.exe = frame, list(by), asked, exe
+        self.goods, price_columns = prices_of(frame, "panel")
+        self.own_money = price_columns[0].startswith("i_")
+        if self.own_money and asked.pump:
+            raise BadData(f"the money pump: {OWN_MONEY}; leave pump=True out")
+        self.levels, of_levels = self._levels(levels)
+        quantities = ["q_" + good for good in self.goods]
+        self.sides = [[frame.columns[name] for name in side] for side in (price_columns, quantities)]
+        columns = [column for side in self.sides for column in side] + ([] if self.levels is None else [self.levels])
+        self.file, self.wanted, self.labels = ("table", "p_NAME and q_NAME for each good", frame.labels)
+        self.names = [HOUSEHOLD, *(f"p_{good}" for good in self.goods), *quantities, *(["e"] if of_levels else [])]
+        self.told = [str(self.by[0]), *price_columns, *quantities, *of_levels]
+        count = len(self.goods)
+        self.kinds = [KEYS, *[PRICES] * count, *[QUANTITIES] * count, *[LEVELS] * len(of_levels)]
+        self.own_forms, self.forms = forms, [AS_THEY_ARE, *[forms[0]] * count, *[forms[1]] * count, *[AS_THEY_ARE] * len(of_levels)]
+        self.are_as_they_are = all(it == AS_THEY_ARE for it in self.forms)
+        # What fits is told by all households, which are rounded alike.
+        self.whole = Kinds(self._taken, self.goods)
+        self.own = list(zip(*columns)) if frame.length else []
+        self.households, self.unnamed = self._told_apart()
 
-    def told(part: str) -> bytes:
-        return program.output(program.ran_of(*calls[part]), explain).encode()
-
-    try:
-        hint = program.hint_of(asked["is_wide"], asked["wide"] is not None)
-        stated = calls.get(STATED + "verdicts")
-        row.verdict = Verdict(made, Certificate(told("verdicts"), None if stated is None else stated[1], hint))
-    except Refused as wrong:
-        row.refusal = wrong
-    except Failed as wrong:
-        row.failure = wrong
-    makes: dict[str, Callable[[], Any]] = {
-        "pump": lambda: MoneyPump(made, told("pump")),
-        "power": lambda: Power(made, told("power"), *asked["power"]),
-    }
-    for name, make in makes.items() if row.verdict is not None else ():
-        try:
-            if asked[name]:
-                setattr(row, {"pump": "money_pump"}.get(name, name), make())
-        except (Refused, Failed) as wrong:
-            row.missing[name] = str(wrong)
-
-
-def _groups(frame: Frame, names: Sequence[Any], levels: Any, forms: Forms, pump: bool = False) -> list[tuple[Any, Callable[[], Table]]]:
-    """Returns what makes the table of each household, under its key."""
-    missing = [name for name in names if name not in frame.columns]
-    if missing or not names:
-        raise WrongColumns([f"{name} (by)" for name in names] or ["by: a column that tells households apart"], frame.names, "panel")
-    goods, price_columns = prices_of(frame, "panel")
-    own = frame.columns["e"] if "e" not in names and near(frame, "e", "levels") else None
-    if levels is not None:
+    def _levels(self, levels: Any) -> tuple[Any, list[str]]:
+        """Returns the levels, or None, and the name of what has them."""
+        own = self.frame.columns["e"] if "e" not in self.by and near(self.frame, "e", "levels") else None
+        if levels is None:
+            return own, ["e"] if own is not None else []
         if own is not None:
             raise BadData("levels are given twice: by the column 'e', and by the argument levels")
-        own = values_of(levels, frame.length, "levels")
-    sides = [[frame.columns[name] for name in side] for side in (price_columns, ["q_" + good for good in goods])]
-    own_money = price_columns[0].startswith("i_")
-    if own_money and pump:
-        raise BadData(f"the money pump: {OWN_MONEY}; leave pump=True out")
-    places: dict[tuple[Any, ...], list[int]] = {}
-    for at in range(frame.length):
-        key = tuple(None if exact.is_missing(frame.columns[name][at]) else frame.columns[name][at] for name in names)
-        places.setdefault(key, []).append(at)
+        return values_of(levels, self.frame.length, "levels"), ["e"]
 
-    def values() -> dict[str, Sequence[Any]]:
-        taken = [[as_taken(value, form) for column in side for value in column] for side, form in zip(sides, forms)]
+    def _taken(self) -> dict[str, Sequence[Any]]:
+        taken = [[as_taken(value, form) for column in side for value in column] for side, form in zip(self.sides, self.own_forms)]
         return dict(zip((PRICES, QUANTITIES), taken))
 
-    # What fits is told by all households, which are rounded alike.
-    whole = Kinds(values, goods)
+    def _told_apart(self) -> tuple[list[_Household], list[_Household]]:
+        """Returns the households, and the records of none, each for itself."""
+        found: dict[str, _Household] = {}
+        unnamed = []
+        columns = [self.frame.columns[name] for name in self.by]
+        for at, keys in enumerate(zip(*columns)):
+            own = id_of(keys)
+            key = keys if len(self.by) > 1 else keys[0]
+            if not is_id(own):
+                unnamed.append(_Household(self, own, key, [at]))
+            elif own in found:
+                found[own].places.append(at)
+                refuse_other_kinds(found[own].key, key)
+            else:
+                found[own] = _Household(self, own, key, [at])
+        return list(found.values()), unnamed
 
-    def of(rows: list[int]) -> Callable[[], Table]:
-        def make() -> Table:
-            labels = own_labels([frame.labels[at] for at in rows], frame.label_name)
-            prices, quantities = ([[column[at] for column in side] for at in rows] for side in sides)
-            return Table(goods, prices, quantities, labels, forms, None if own is None else [own[at] for at in rows], own_money, whole)
+    def table(self, places: Sequence[int]) -> Table:
+        """Returns the table of these rows."""
+        labels = own_labels([self.labels[at] for at in places], self.frame.label_name)
+        prices, quantities = ([[column[at] for column in side] for at in places] for side in self.sides)
+        levels = None if self.levels is None else [self.levels[at] for at in places]
+        return Table(self.goods, prices, quantities, labels, self.own_forms, levels, self.own_money, self.whole)
 
-        return make
+    def text(self, own: _Household) -> list[list[str]]:
+        """Returns the records of a household. What has no text of its own has one that is refused for the same fault."""
+        records = []
+        for at in own.places[:DECIDING]:
+            row = list(self.own[at])
+            if self.are_as_they_are and exact.are_plain(row):
+                records.append([own.id, *map(str, row)])
+            else:
+                records.append([own.id, *(self.number(value, form) for value, form in zip(row, self.forms[1:]))])
+        return records
 
-    return [(key if len(names) > 1 else key[0], of(rows)) for key, rows in places.items()]
+    def number(self, value: Any, form: exact.Form) -> str:
+        try:
+            return exact.text_of(value, form)
+        except exact.NotFinite:
+            return ENDLESS
+        except exact.TooLong as wrong:
+            return TOO_LONG[wrong.fault]
+
+    # -- the call
+
+    def answers(self, workers: int) -> Iterator[Row]:
+        """Yields the rows: of the households, and then of the records of none."""
+        if not self.households and not self.unnamed:
+            return
+        run, path = program.panel_way(self.exe)
+        count = len(self.households)
+        size = 1 + (count - 1) // (4 * workers) if workers > 1 and count >= FEW else BLOCK
+        size = min(size, BLOCK)
+        blocks = [group[at : at + size] for group in (self.households, self.unnamed) for at in range(0, len(group), size)]
+        try:
+            for _, found in in_turn(blocks, lambda block: self.answer(block, run, path), workers if count >= FEW else 1):
+                yield from found
+        except OSError as wrong:
+            raise NoProgram(f"{path} cannot be run: {wrong}") from wrong
+
+    def answer(self, block: Sequence[_Household], run: program.Runs, path: str) -> list[Row]:
+        """Returns the rows of a block."""
+        pooled = {own.id: wrong for own in block if own.id for wrong in self.pooled(own)}
+        sent = [own for own in block if own.id not in pooled]
+        rows = iter(self.called(sent, run, path) if sent else [])
+        found = []
+        for own in block:
+            if own.id in pooled:
+                found.append(Row(own.key, [own.id, *[""] * (len(COLUMNS) - 4), "Pooled", "", ""], own, pooled[own.id]))
+            else:
+                found.append(next(rows))
+        return found
+
+    def pooled(self, own: _Household) -> Iterator[Pooled]:
+        """Yields why the rows of a household look like those of several."""
+        try:
+            own_labels([self.labels[at] for at in own.places], self.frame.label_name)
+        except Pooled as wrong:
+            yield wrong
+
+    def called(self, sent: Sequence[_Household], run: program.Runs, path: str) -> list[Row]:
+        """Returns the rows that the call gives of some households, or of records of none."""
+        records = [record for own in sent for record in self.text(own)]
+        places = [at for own in sent for at in own.places[:DECIDING]]
+        data = program.csv_bytes([self.names, *records])
+        ran = program.ran_of(*run(path, self.asked.words(), {LONG: data}))
+        out = program.output(ran, lambda _, fault, at: self.refused(fault, at))
+        named = [own.id for own in sent if is_id(own.id)]
+        rows = answered(out, named, len(sent) - len(named), self.asked)
+        return [self.row(own, texts, places) for own, texts in zip(sent, rows)]
+
+    def row(self, own: _Household, texts: list[str], places: Sequence[int]) -> Row:
+        """Returns the row of a household. A fault's record becomes that of the frame, and so does its column."""
+        it = dict(zip(COLUMNS, texts))
+        if not it["fault"]:
+            return Row(own.key, texts, own)
+        at = {name: int(it[name]) for name in ("record", "column") if it[name]}
+        if "record" in at:
+            at["record"] = places[at["record"] - 1] + 1
+        refusal = self.refused(it["fault"], at)
+        it.update(household=own.id, record=_told(refusal.record), column=_told(refusal.column))
+        return Row(own.key, [it[name] for name in COLUMNS], own, refusal)
+
+    def column_of(self, column: int) -> int | None:
+        """Returns the number in the frame of a column of the long text; None where the frame has not it, as of levels by argument."""
+        name = self.told[column - 1]
+        return self.frame.names.index(name) + 1 if name in self.frame.columns else None
+
+    def refused(self, fault: str, places: dict[str, int]) -> Refused:
+        """Returns the refusal of a record, told by the names of the frame."""
+        record, column = places.get("record"), places.get("column")
+        label = self.labels[record - 1] if record else None
+        name = self.told[column - 1] if column else None
+        value = shown = None
+        if record and column:
+            value = self.own[record - 1][column - 2]
+            shown = "missing" if exact.is_missing(value) else exact.shown(value)
+            value = as_taken(value, self.forms[column - 1])
+        hint = PANEL_HINTS.get(fault) or self._hint(fault, value, self.kinds[column - 1] if column else "")
+        told = self.column_of(column) if column else column
+        return Refused(fault, self.file, record, told, label=label, name=name, value=shown, hint=hint)
+
+
+def refuse_other_kinds(first: Any, other: Any) -> None:
+    """Refuses two keys that are no texts, are not equal, and have one text."""
+    pairs = zip(first, other) if isinstance(first, tuple) else [(first, other)]
+    for one, two in pairs:
+        if one != two and not (isinstance(one, str) and isinstance(two, str)):
+            raise BadData(f"the households {one!r} and {two!r} are not equal, and have one text: make their keys texts that differ")
 
 
 def _processors() -> int:

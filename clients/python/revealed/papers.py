@@ -6,6 +6,8 @@ from fractions import Fraction
 from math import floor, fsum
 from typing import Any, Callable, Sequence
 
+from .long_call import OF_ID
+
 LEVELS = ("0.99", "0.95", "0.90", "0.80")
 
 
@@ -52,21 +54,23 @@ def distribution(name: str, values: Sequence[Fraction]) -> list[tuple[str, str]]
 
 
 def lines_of(panel: Any) -> list[tuple[str, str]]:
-    """Returns the lines of the table: what is told, and its value. Households without a verdict are counted and left out of the
+    """Returns the lines of the table: what is told, and its value. Households without verdicts are counted and left out of the
     rest; what is withheld counts, as what may hold or not."""
-    rows = [row for row in panel if row.verdict is not None]
-    lines = [("households", str(len(panel))), ("with a verdict", str(len(rows)))]
+    rows = [row for row in panel if row.fault is None]
+    unnamed = sum(row.fault in OF_ID for row in panel)
+    lines = [("households", str(len(panel) - unnamed)), ("with a verdict", str(len(rows)))]
+    lines += [("records without a household", str(unnamed))] if unnamed else []
     asked = [("garp", "GARP holds"), ("homothetic", "homothetic"), ("quasilinear", "quasilinear")]
     # Where rows have money of their own, the quasilinear test is not asked, and so not withheld.
-    for name, title in asked[:2] if any(row.verdict.table.own_money for row in rows) else asked:
-        lines.append((title, share_told([getattr(row.verdict, name) for row in rows])))
-    index = [row.verdict.efficiency for row in rows]
+    for name, title in asked[:2] if any(row.own_money for row in rows) else asked:
+        lines.append((title, share_told([getattr(row, name) for row in rows])))
+    index = [row.efficiency for row in rows]
     lines += distribution("efficiency index (CCEI)", index)
     lines += [(f"efficiency index at least {level}", share(sum(value >= Fraction(level) for value in index), len(index))) for level in LEVELS]
     if "pump" in panel.asked:
-        lines += distribution("money pump ratio, greatest", [row.money_pump.ratio for row in rows if row.money_pump is not None])
+        lines += distribution("money pump ratio, greatest", [row.pump for row in rows])
     if "power" in panel.asked:
-        lines += distribution("power of the test", [row.power.share for row in rows if row.power is not None])
+        lines += distribution("power of the test", [row.power for row in rows])
     return lines
 
 

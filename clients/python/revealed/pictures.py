@@ -85,13 +85,13 @@ def of_panel(panel: Any, ax: Any = None, *, random: int = 1000, seed: Any = 1, b
     A behaviour takes the budgets of one household, in turn, and on each a bundle drawn uniformly on the budget line. Its index is
     the program's. Beside each stands the share whose index is above 0.90, and above 0.95.
     """
-    rows = [row for row in panel if row.verdict is not None]
+    rows = [row for row in panel if row.fault is None]
     if not rows:
         raise BadData("no household of this panel has a verdict")
     ax = axes_of(ax)
-    values = [row.verdict.ccei for row in rows]
+    values = [row.ccei for row in rows]
     behaviours = draws.verdicts(rows, random, seed, exe=exe, workers=workers) if random else []
-    drawn = [verdict.ccei for verdict in behaviours]
+    drawn = [row.ccei for row in behaviours]
     low = min([*values, *drawn])
     edges = [low + (1 - low) * place / bins for place in range(bins + 1)] if low < 1 else [0.95 + 0.05 * place / bins for place in range(bins + 1)]
     told = [(values, PLAIN, f"{len(values)} households: {shares_told(rows)}")]

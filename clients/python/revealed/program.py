@@ -19,8 +19,12 @@ WIDE_VARIABLE = "RP_WIDE"
 WIDE_NAME = "rp-wide.exe" if sys.platform == "win32" else "rp-wide"
 # Where it is beside the program as `rt` builds both.
 BUILT = os.path.join(os.pardir, os.pardir, "rp_wide", "out", "rp_wide")
-# A name of a file that the program is given stands in a refusal as `rp: table.csv: BadNumber record 2 column 5`.
-REFUSAL = re.compile(r"rp: (?:([\w-]+)\.(?:csv|json): )?([A-Z]\w*(?: (?:record|column|budget|menu|item) \d+)*)")
+# The program of panels: what this variable names, else what stands beside the program, or where `rt` builds it.
+PANEL_VARIABLE = "RP_PANEL"
+PANEL_NAME = "rp-panel.exe" if sys.platform == "win32" else "rp-panel"
+PANEL_BUILT = os.path.join(os.pardir, os.pardir, "rp_panel_program", "out", "rp_panel_program")
+# A name of a file that a program is given stands in a refusal as `rp: table.csv: BadNumber record 2 column 5`.
+REFUSAL = re.compile(r"rp(?:-panel)?: (?:([\w-]+)\.(?:csv|json): )?([A-Z]\w*(?: (?:record|column|budget|menu|item|name) \d+)*)")
 # What a field has to be quoted for.
 QUOTED = re.compile('[",\r\n]')
 QUOTED_ALSO = re.compile('["\r\n]')
@@ -60,8 +64,8 @@ def wide_way(exe: Any = None) -> tuple[Runs | None, str] | None:
     by_library, path = way(exe)
     if by_library is not None and library.known(path).wider is not None:
         return library.known(path).run_wide, path
-    beside = wide_beside(None if by_library is not None else path)
-    return (None, beside) if beside is not None else None
+    own = wide_beside(None if by_library is not None else path)
+    return (None, own) if own is not None else None
 
 
 def wide_beside(path: str | None) -> str | None:
@@ -69,9 +73,44 @@ def wide_beside(path: str | None) -> str | None:
     named = os.environ.get(WIDE_VARIABLE)
     if named:
         return _named(named, f"the variable {WIDE_VARIABLE}")
+    return beside(path, WIDE_NAME, BUILT)
+
+
+def beside(path: str | None, *names: str) -> str | None:
+    """Returns the program of one of these names that stands beside a path, or beside what that leads to."""
     folders = [] if path is None else [os.path.dirname(path), os.path.dirname(os.path.realpath(path))]
-    places = [os.path.join(folder, name) for folder in folders for name in (WIDE_NAME, BUILT)]
+    places = [os.path.join(folder, name) for folder in folders for name in names]
     return next((os.path.abspath(it) for it in places if os.path.isfile(it) and os.access(it, os.X_OK)), None)
+
+
+def panel_way(exe: Any = None) -> tuple[Runs, str]:
+    """Returns how the table of households is made: by the call of the library, or by the program `rp-panel`. Either is what the
+    argument names, where that is no `rp`; else what RP_PANEL names, else what belongs to the library or the program that is found.
+    """
+    given = exe is not None and exe != ""
+    if given and not library.is_library(exe) and os.path.basename(os.fsdecode(os.fspath(exe))) != NAME:
+        return worker.run, _named(exe, "the argument exe")
+    named = os.environ.get(PANEL_VARIABLE)
+    if not given and named:
+        return worker.run, _named(named, f"the variable {PANEL_VARIABLE}")
+    try:
+        by_library, path = way(exe)
+    except NoProgram:
+        if given:
+            raise
+        by_library, path = None, ""
+    if by_library is not None and library.known(path).panels is not None:
+        return library.known(path).run_panel, path
+    inside_of = [] if given else library.places(PANEL_NAME)
+    found = (
+        beside(path or None, PANEL_NAME, PANEL_BUILT)
+        or next((it for it in inside_of if os.path.isfile(it)), None)
+        or (None if given else shutil.which(PANEL_NAME))
+    )
+    if found is None:
+        where = f"{path} has no call of panels, and no {PANEL_NAME} stands beside it" if path else f"there is no {PANEL_NAME}"
+        raise NoProgram(f"{where}: take both of one release, or name the program by {PANEL_VARIABLE}")
+    return worker.run, os.path.abspath(found)
 
 
 def _named(named: Any, where: str) -> str:
@@ -90,7 +129,8 @@ def field(text: str) -> str:
     return '"' + text.replace('"', '""') + '"' if QUOTED.search(text) else text
 
 
-def _line(row: Sequence[str]) -> str:
+def joined(row: Sequence[str]) -> str:
+    """Returns a record of a CSV file, without the end of its line."""
     line = ",".join(row)
     # Where nothing is to be quoted, there are no other commas than those between the fields.
     if line.count(",") == len(row) - 1 and line and not QUOTED_ALSO.search(line):
@@ -100,7 +140,7 @@ def _line(row: Sequence[str]) -> str:
 
 def csv_bytes(rows: Iterable[Sequence[str]]) -> bytes:
     """Returns rows of texts as the bytes of a CSV file. A row of one empty text is quoted, since blank lines count for nothing."""
-    lines = [_line(row) for row in rows]
+    lines = [joined(row) for row in rows]
     try:
         return "".join(f"{line}\n" for line in lines).encode("utf-8", "surrogateescape")
     except UnicodeEncodeError as wrong:

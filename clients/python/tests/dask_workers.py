@@ -32,7 +32,7 @@ def main(words):
 
     long, by, exe, verdicts = words
     d = pandas.read_csv(long, dtype=str, keep_default_na=False)
-    wanted = revealed.panel(d, by, exe=exe, progress=False).frame()
+    wanted = revealed.clusters.records_of(d, by, {"exe": exe})
     frame = dask.dataframe.from_pandas(d, npartitions=PARTITIONS, sort=False)
     how = {"n_workers": 2, "threads_per_worker": 1, "processes": True, "dashboard_address": None, "local_directory": os.path.dirname(verdicts)}
     with LocalCluster(**how) as cluster, Client(cluster) as client:

@@ -30,7 +30,8 @@ def long(households=40, seed=7, **more):
 
 
 def one(d, by="home", **more):
-    return revealed.panel(d, by, progress=False, **more).frame()
+    """Returns the records of one machine, in which the record of a fault counts the household's own rows."""
+    return revealed.clusters.records_of(d, by, {"pump": False, **more})
 
 
 @unittest.skipIf(pandas is None, "pandas is not there")
@@ -49,11 +50,12 @@ class Tasks(unittest.TestCase):
             for name in wanted:
                 told = [None if pandas.isna(it) else it for it in wanted[name]]
                 self.assertEqual([None if pandas.isna(it) else it for it in found[name]], told, name)
-            self.assertEqual({str(it) for it in found.dtypes}, {"object", "float64", "int64"})
+            self.assertEqual({str(it) for it in found.dtypes}, {"object", "float64"})
 
     def test_the_schema(self):
-        wanted = "`town` string, `year` string, `status` bigint, `garp` boolean, `afriat` boolean, `efficiency` string, `ccei` double, "
-        wanted += "`attained` boolean, `homothetic` boolean, `quasilinear` boolean, `wide` string, `power` double, `message` string"
+        wanted = "`town` string, `year` string, `observations` bigint, `goods` bigint, `garp` boolean, `efficiency` string, "
+        wanted += "`efficiency_floor` double, `attained` boolean, `homothetic` boolean, `quasilinear` boolean, `pump` string, "
+        wanted += "`pump_floor` double, `power` string, `fault` string, `record` bigint, `column` bigint"
         self.assertEqual(revealed.panel_task(["town", "year"], order="obs", power=5).schema, wanted)
         self.assertTrue(revealed.panel_task("town", order="obs", key="bigint").schema.startswith("`town` bigint, "))
 

@@ -207,8 +207,6 @@ class Answers(unittest.TestCase):
         with_library = revealed.analyse(*LONG, exe=LIBRARY)
         self.assertEqual((with_library.homothetic, with_library.wide), (True, ["homothetic"]))
         self.assertTrue(revealed.check(LONG, with_library, exe=LIBRARY))
-        frame = {"home": [1, 1, 1, 2, 2, 2], **{f"{side}_{at}": [row[at] for row in rows] * 2 for side, rows in zip("pq", LONG) for at in (0, 1)}}
-        self.assertEqual([row.verdict.wide for row in revealed.panel(frame, "home", exe=LIBRARY, progress=False)], [["homothetic"]] * 2)
         if program.wide_way(os.environ["RP_EXEC"]):
             self.both(lambda exe: revealed.analyse(*LONG, exe=exe))
 
@@ -252,10 +250,15 @@ class Answers(unittest.TestCase):
             thread.join()
         self.assertEqual(wrong, [])
 
+    @unittest.skipUnless(LIBRARY and library.known(os.path.abspath(LIBRARY)).panels, "the library has no call of panels")
     def test_a_panel(self):
         d = {"id": [1, 1, 2, 2, 3], "p_a": [1, 2, 1, 2, 0], "p_b": [2, 1, 2, 1, 1], "q_a": [1, 2, 2, 1, 1], "q_b": [2, 1, 1, 2, 1]}
-        by_library = revealed.panel(d, "id", pump=True, power=20, exe=LIBRARY, progress=False).records()
-        self.assertEqual(by_library, revealed.panel(d, "id", pump=True, power=20, progress=False).records())
+        for more in ({}, {"pump": True, "power": 20}, {"wide": False}):
+            by_library = revealed.panel(d, "id", exe=LIBRARY, progress=False, **more)
+            self.assertEqual(by_library.csv(), revealed.panel(d, "id", progress=False, **more).csv())
+        frame = {"home": [1, 1, 1, 2, 2, 2], **{f"{side}_{at}": [row[at] for row in rows] * 2 for side, rows in zip("pq", LONG) for at in (0, 1)}}
+        self.assertEqual([row.homothetic for row in revealed.panel(frame, "home", exe=LIBRARY, progress=False)], [True, True])
+        self.assertEqual([row.homothetic for row in revealed.panel(frame, "home", exe=LIBRARY, progress=False, wide=False)], [None, None])
 
 
 if __name__ == "__main__":

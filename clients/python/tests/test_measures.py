@@ -258,8 +258,10 @@ class AltogetherAnotherWay(unittest.TestCase):
     def test_a_panel_of_all(self):
         d = {"id": [1, 1, 2, 2], "p_a": [1, 2] * 2, "p_b": [2, 1] * 2, "q_a": [1, 2, 2, 1], "q_b": [2, 1, 1, 2]}
         found = revealed.panel(d, "id", pump=True, power=100, seed=7, progress=False)
-        self.assertEqual([row.money_pump.ratio for row in found], [Fraction(1, 5), 0])
-        self.assertEqual([row.power.draws for row in found], [100, 100])
+        self.assertEqual([row.pump for row in found], [Fraction(1, 5), 0])
+        self.assertEqual([row.texts["power"].partition("/")[2] for row in found], ["100", "100"])
+        own = [revealed.power({name: column[at : at + 2] for name, column in d.items() if name != "id"}, seed=7, draws=100) for at in (0, 2)]
+        self.assertEqual([row.power for row in found], [it.share for it in own])
         self.assertEqual([(row["pump"] > 0, row["garp"]) for row in found.records()], [(True, False), (False, True)])
 
 

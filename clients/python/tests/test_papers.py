@@ -83,8 +83,8 @@ class Texts(unittest.TestCase):
     def test_records(self):
         first, second, third = made(pump=True).records()
         self.assertEqual((first["efficiency"], second["efficiency"], third["efficiency"]), (Fraction(4, 5), 1, None))
-        self.assertEqual((second["ccei"], third["ccei"], second["pump"], first["pump_ratio"]), (1.0, None, 0.0, Fraction(1, 5)))
-        self.assertEqual(first["ccei"], 0.8)
+        self.assertEqual((second["efficiency_floor"], third["efficiency_floor"], second["pump_floor"], first["pump"]), (1.0, None, 0.0, Fraction(1, 5)))
+        self.assertEqual((first["efficiency_floor"], first["pump_floor"], third["fault"], third["record"]), (0.8, 0.2, "ZeroPrice", 5))
 
 
 BEHAVIOURS = pathlib.Path(__file__).resolve().parents[2] / "tests" / "behaviours.json"
@@ -130,7 +130,7 @@ class Draws(unittest.TestCase):
     def test_the_benchmark(self):
         panel = made()
         tables = draws.on_budgets_of(panel, 5, seed=3)
-        words, own = draws.Words(3), [draws.Budgets(row.verdict.table) for row in panel[:2]]
+        words, own = draws.Words(3), [draws.Budgets(row.table) for row in panel[:2]]
         self.assertEqual([it.csv() for it in tables], [own[at % 2].drawn(words).csv() for at in range(5)])
         found = draws.verdicts(panel, 5, seed=3)
         self.assertEqual([it.efficiency for it in found], [revealed.analyse(it).efficiency for it in tables])
@@ -160,11 +160,13 @@ class Frames(unittest.TestCase):
     def test_types(self):
         f = made(pump=True, power=10).frame()
         types = {name: str(kind) for name, kind in f.dtypes.items()}
-        for name in ("garp", "afriat", "attained", "homothetic", "quasilinear"):
+        self.assertEqual(list(types), ["id", *revealed.long_call.COLUMNS[1:]])
+        for name in ("garp", "attained", "homothetic", "quasilinear"):
             self.assertEqual(types[name], "boolean")
-        for name in ("ccei", "pump", "power"):
+        for name in ("efficiency_floor", "pump_floor"):
             self.assertEqual(types[name], "Float64")
-        self.assertEqual((types["efficiency"], types["message"], types["status"], types["id"]), ("string", "string", "Int64", "int64"))
+        self.assertEqual((types["efficiency"], types["fault"], types["record"], types["id"]), ("string", "string", "Int64", "int64"))
+        self.assertEqual(list(f["power"].fillna(""))[2], "")
         self.assertEqual(list(f["efficiency"].fillna("")), ["4/5", "1", ""])
 
     def test_they_behave(self):
@@ -172,11 +174,11 @@ class Frames(unittest.TestCase):
         self.assertEqual(list((~f.garp).fillna(False)), [True, False, False])
         self.assertEqual(list(f[f.garp.fillna(False)].id), [2])
         self.assertEqual((f.garp.sum(), f.garp.isna().sum()), (1, 1))
-        self.assertEqual((f.ccei.describe()["count"], f.describe().shape[0]), (2, 8))
-        self.assertAlmostEqual(float(f.ccei.mean()), 0.9)
-        self.assertIsNotNone(f.ccei.hist())
-        self.assertEqual(f.groupby("garp").ccei.mean().size, 2)
-        self.assertEqual(list(f.sort_values("ccei", na_position="last").id), [1, 2, 3])
+        self.assertEqual((f.efficiency_floor.describe()["count"], f.describe().shape[0]), (2, 8))
+        self.assertAlmostEqual(float(f.efficiency_floor.mean()), 0.9)
+        self.assertIsNotNone(f.efficiency_floor.hist())
+        self.assertEqual(f.groupby("garp").efficiency_floor.mean().size, 2)
+        self.assertEqual(list(f.sort_values("efficiency_floor", na_position="last").id), [1, 2, 3])
 
     def test_stata(self):
         with tempfile.TemporaryDirectory() as folder:
@@ -187,11 +189,11 @@ class Frames(unittest.TestCase):
             self.assertEqual(list(back["garp"])[:2], [0, 1])
             self.assertTrue(math.isnan(list(back["garp"])[2]))
             self.assertEqual(list(back["efficiency"]), ["4/5", "1", ""])
-            self.assertEqual(back["ccei"][1], 1.0)
+            self.assertEqual(back["efficiency_floor"][1], 1.0)
 
     def test_keys_that_are_texts(self):
         f = revealed.panel({"town": ["x", "x", None], "p_a": [1, 1, 1], "q_a": [1, 2, 3]}, "town", progress=False).frame()
-        self.assertEqual(len(f), 2)
+        self.assertEqual((len(f), list(f["fault"].fillna(""))), (2, ["", "NoId"]))
 
     def test_an_empty_panel(self):
         self.assertEqual(len(revealed.panel(pandas.DataFrame({"id": [], "p_a": [], "q_a": []}), "id", progress=False).frame()), 0)

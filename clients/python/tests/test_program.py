@@ -309,7 +309,11 @@ class Panels(unittest.TestCase):
         self.assertEqual([row.status for row in found], [0, 0, 0, 4])
         self.assertEqual([row["garp"] for row in found.records()], [True, False, True, None])
         self.assertEqual((found[3].refusal.fault, found[3].refusal.label, found[1].verdict.labels), ("ZeroPrice", 6, [2, 5]))
-        self.assertIn("ZeroPrice", found.records()[3]["message"])
+        last = found.records()[3]
+        self.assertEqual((last["fault"], last["record"], last["column"]), ("ZeroPrice", 6, 2))
+        self.assertIn("ZeroPrice record 6 column 2 (row 6, column 'p_a', value 0)", found[3].message)
+        self.assertEqual((found[1].efficiency, found[1].efficiency_floor, found[1].ccei), (Fraction(4, 5), 0.8, 0.8))
+        self.assertTrue(revealed.verify(found[1].verdict))
 
     def test_two_columns_tell_apart(self):
         d = {"town": ["x", "x"], "year": [1, 2], "p_a": [1, 1], "q_a": [1, 1]}
@@ -321,8 +325,7 @@ class Panels(unittest.TestCase):
     def test_a_frame_of_it(self):
         d = pandas.DataFrame({"id": [7, 8, 7], "p_a": [1, 2, 3], "q_a": [1, 1.5, None]}, index=["u", "v", "w"])
         found = revealed.panel(d, "id").frame()
-        self.assertEqual(list(found["status"]), [4, 0])
-        self.assertIn("row 'w'", found["message"][0])
+        self.assertEqual((list(found["fault"].fillna("")), found["record"][0]), (["BadNumber", ""], 3))
 
 
 def many(count):
@@ -335,34 +338,19 @@ def many(count):
     return d
 
 
-class Processes(unittest.TestCase):
-    """Processes beside the panel that run the program."""
+class Threads(unittest.TestCase):
+    """Blocks of households by several calls at once."""
 
     def test_many_households(self):
         count = 3 * revealed.panels.FEW
-        found = [revealed.panel(many(count), "id", workers=workers, pump=True, progress=False).records() for workers in (1, 3)]
-        self.assertEqual(found[0], found[1])
-        self.assertEqual([row["status"] for row in found[0]], [4 if number % 9 == 0 else 0 for number in range(count)])
-
-    def test_one_that_is_killed(self):
-        tables = [revealed.table(P, sides) for sides in (Q, [[2, 1], [1, 2]])]
-        asked = {**revealed.long_answers.ASKED, "verdicts": "certify", "rp": os.environ["RP_EXEC"], "library": False}
-        wanted = [{"verdicts": (0, revealed.certify(own).data, b"")} for own in tables]
-        pool = revealed.long_answers.Pool(2, asked)
-        try:
-            pool.begin()
-            for number, (_, answers) in enumerate(pool.each([[own.csv() for own in tables]] * 40)):
-                self.assertEqual(answers, wanted)
-                if number in (3, 9):
-                    pool.processes[-1].process.kill()
-        finally:
-            pool.close()
-        self.assertGreaterEqual(pool.restarts, 1)
-        self.assertFalse(os.path.exists(pool.folder))
+        found = [revealed.panel(many(count), "id", workers=workers, pump=True, progress=False) for workers in (1, 3)]
+        self.assertEqual(found[0].csv(), found[1].csv())
+        self.assertEqual([row.fault for row in found[0]], ["ZeroPrice" if number % 9 == 0 else None for number in range(count)])
+        self.assertEqual([row.record for row in found[0] if row.fault], [2 * number + 2 for number in range(0, count, 9)])
 
     def test_a_program_that_cannot_be_run(self):
         with tempfile.TemporaryDirectory() as folder:
-            exe = pathlib.Path(folder) / "rp"
+            exe = pathlib.Path(folder) / "rp-panel"
             exe.write_bytes(b"\x7fELF no program")
             exe.chmod(0o755)
             for count in (1, 2 * revealed.panels.FEW):
@@ -403,9 +391,10 @@ class Programs(unittest.TestCase):
             with self.assertRaises(Refused) as caught:
                 revealed.random({**BUDGETS, "obs": ["low", "high"]}, {**CHOICES, "budget": ["low", "low", "high", "high"]}, exe=exe)
             self.assertEqual((caught.exception.fault, caught.exception.budget, caught.exception.label), ("NeedUnit", 2, "high"))
-            exe = self.fake(folder, 6, "rp: out of memory")
-            (row,) = revealed.panel({"id": [1], "p_a": [1], "q_a": [1]}, "id", exe=exe, progress=False)
-            self.assertEqual((row.status, row.verdict, row.failure.status), (6, None, 6))
+            exe = self.fake(folder, 6, "rp-panel: out of memory")
+            with self.assertRaises(Failed) as caught:
+                revealed.panel({"id": [1], "p_a": [1], "q_a": [1]}, "id", exe=exe, progress=False)
+            self.assertEqual((caught.exception.status, caught.exception.said), (6, "rp-panel: out of memory"))
 
     def test_a_note_is_no_fault(self):
         with tempfile.TemporaryDirectory() as folder:

@@ -3,6 +3,7 @@ say something else. A refusal of data is the program's that RP_EXEC names."""
 
 import os
 import pathlib
+import shutil
 import stat
 import tempfile
 import unittest
@@ -86,7 +87,7 @@ class Rounding(unittest.TestCase):
             revealed.panel(d, "home", progress=False)
         found = caught.exception
         self.assertEqual((found.fault, found.key, found.count, found.record, found.name), ("TooManyDecimals", "u", 2, 1, "p_a"))
-        self.assertTrue(str(found).startswith("all 2 households are refused for one cause, the first, 'u': TooManyDecimals record 1 column 1"), str(found))
+        self.assertTrue(str(found).startswith("all 2 households are refused for one cause, the first, 'u': TooManyDecimals record 1 column 2"), str(found))
         # what fits is told by all of them: 12500.5 leaves two places
         self.assertIn("places=(2, None)", found.hint)
         self.assertIn("numbers='shortest'", found.hint)
@@ -137,9 +138,9 @@ class Levels(unittest.TestCase):
         found = revealed.utility(P, Q, [[1, 2], [2, 1]], levels=LEVELS)
         self.assertEqual(found, [-1, 0])
         d = {"id": [1, 1, 2, 2], "p_a": [1, 2] * 2, "p_b": [2, 1] * 2, "q_a": [1, 2] * 2, "q_b": [2, 1] * 2}
-        self.assertEqual([row.verdict.garp for row in revealed.panel({**d, "e": [*LEVELS, 1000, 1000]}, "id", progress=False)], [True, False])
-        self.assertEqual([row.verdict.garp for row in revealed.panel(d, "id", levels=[1000, 1000, *LEVELS], progress=False)], [False, True])
-        self.assertEqual([row.verdict.garp for row in revealed.panel(d, "id", levels=799, progress=False)], [True, True])
+        self.assertEqual([row.garp for row in revealed.panel({**d, "e": [*LEVELS, 1000, 1000]}, "id", progress=False)], [True, False])
+        self.assertEqual([row.garp for row in revealed.panel(d, "id", levels=[1000, 1000, *LEVELS], progress=False)], [False, True])
+        self.assertEqual([row.garp for row in revealed.panel(d, "id", levels=799, progress=False)], [True, True])
 
     def test_each_call_that_has_none(self):
         for call in (
@@ -155,10 +156,11 @@ class Levels(unittest.TestCase):
         with self.assertRaises(BadData):
             revealed.plain.welfare(revealed.from_frame({"p_a": [1], "q_a": [1], "e": [5]}), new=[1])
         d = {"id": [1, 1], "p_a": [1, 2], "p_b": [2, 1], "q_a": [1, 2], "q_b": [2, 1], "e": LEVELS}
-        (row,) = revealed.panel(d, "id", pump=True, power=10, progress=False)
-        self.assertTrue(row.verdict.garp)
-        self.assertEqual(sorted(row.missing), ["power", "pump"])
-        self.assertIn("OwnLevels", row.message)
+        for more in ({"pump": True}, {"power": 10}):
+            with self.assertRaises(revealed.AllRefused) as caught:
+                revealed.panel(d, "id", progress=False, **more)
+            self.assertEqual(caught.exception.fault, "OwnLevels")
+            self.assertIn("leave pump and power out", caught.exception.hint)
 
     def test_levels_that_are_none(self):
         for levels, fault in [([0.8, 1], "BadNumber"), ([800.5, 1], "BadNumber"), ([0, 1], "BadLevel"), ([1001, 1], "BadLevel"), ([None, 1], "BadNumber")]:
@@ -175,7 +177,7 @@ class Households(unittest.TestCase):
             with self.assertRaises(Pooled) as caught:
                 call(d)
             self.assertIn("by=", str(caught.exception))
-        self.assertEqual([row.verdict.garp for row in revealed.panel(d, "household", progress=False)], [True, True])
+        self.assertEqual([row.garp for row in revealed.panel(d, "household", progress=False)], [True, True])
 
     def test_a_panel_by_too_few_columns(self):
         d = {"town": ["x"] * 4, "home": [1, 1, 2, 2], "obs": [1, 2, 1, 2], "p_a": [1] * 4, "q_a": [1] * 4}
@@ -407,8 +409,8 @@ class OtherPrograms(unittest.TestCase):
                     with self.assertRaises(Unreadable, msg=f"{text[:40]!r} in call {number}") as caught:
                         call(exe)
                     self.assertEqual(caught.exception.status, 0)
-                (row,) = revealed.panel({"id": [1, 1], "p_a": [1, 2], "p_b": [2, 1], "q_a": [1, 2], "q_b": [2, 1]}, "id", exe=exe, progress=False)
-                self.assertIsInstance(row.failure, Unreadable)
+                with self.assertRaises(Unreadable):
+                    revealed.panel({"id": [1, 1], "p_a": [1, 2], "p_b": [2, 1], "q_a": [1, 2], "q_b": [2, 1]}, "id", exe=shutil.copy(exe, f"{folder}/rp-panel"))
 
     def test_what_is_no_program(self):
         for exe in (5, b"/nowhere", "/nowhere", "a\x00b", object(), pathlib.Path("/nowhere")):

@@ -122,20 +122,6 @@ class Verdicts(unittest.TestCase):
                 revealed.analyse(P, Q, exe=exe)
             self.assertEqual(caught.exception.status, 9)
 
-    def test_a_panel(self):
-        frame = {"home": ["u"] * 3 + ["v"] * 3, **{f"p_{it}": [row[it] for row in P] * 2 for it in (0, 1)}}
-        frame.update({f"q_{it}": [row[it] for row in Q] * 2 for it in (0, 1)})
-        with stand_ins({"certify": self.wide}, certify=self.own) as exe:
-            found = revealed.panel(frame, "home", exe=exe, progress=False)
-            self.assertEqual([(row.verdict.homothetic, row.verdict.wide) for row in found], [(True, ["homothetic"])] * 2)
-            self.assertEqual([record["wide"] for record in found.records()], ["homothetic"] * 2)
-            self.assertIn("wide", found.names())
-            found = revealed.panel(frame, "home", exe=exe, progress=False, wide=False)
-            self.assertEqual([record["wide"] for record in found.records()], [""] * 2)
-            self.assertIn("leave wide=False out", found[0].message)
-        with stand_ins(certify=self.own) as exe:
-            self.assertIn(wider.ABSENT, revealed.panel(frame, "home", exe=exe, progress=False)[0].message)
-
 
 class Bounds(unittest.TestCase):
     years = [[2, 1], [1, 2]], [[1, 2], [2, 1]]

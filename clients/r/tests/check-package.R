@@ -1,6 +1,6 @@
 #!/usr/bin/env Rscript
 # Builds and checks the package `revealed` by R's own rules, runs its tests in the C and a UTF-8 locale in folders with
-# blanks and letters outside ASCII, runs its vignette, compares a panel of 1,000 households with clients/panel/rp-panel,
+# blanks and letters outside ASCII, runs its vignette, compares a panel of 1,000 households with clients/panel/rp-panel-long,
 # and looks at the sessions of clients/r/README.md.
 #
 # usage: RP_EXEC=PROGRAM [RP_TEST_LIBRARY=LIBRARY] [RP_TEST_PACKAGE=FILE] Rscript check-package.R
@@ -163,17 +163,15 @@ long$q_rent <- long$q_rent + 1L
 long$p_wine[long$household %% 100 == 0 & long$obs == 5] <- "0"
 path <- file.path(room, "long.csv")
 write.csv(long, path, row.names = FALSE, quote = FALSE)
-panel <- file.path(top, "clients", "panel", "rp-panel")
+panel <- file.path(top, "clients", "panel", "rp-panel-long")
 first <- system.time(
-  run("rp-panel", c(shQuote(panel), "--rp", shQuote(Sys.getenv("RP_EXEC")), shQuote(path), "verdicts.csv"), exe = "python3")
+  run("rp-panel-long", c(shQuote(panel), "--rp", shQuote(Sys.getenv("RP_EXEC")), shQuote(path), "verdicts.csv"), exe = "python3")
 )[["elapsed"]]
 second <- system.time(found <- as.data.frame(rp_panel(long, "household", progress = FALSE)))[["elapsed"]]
-wanted <- read.csv(file.path(room, "verdicts.csv"))
-word <- function(x) ifelse(is.na(x), "", ifelse(x, "holds", "violated"))
-same <- identical(found$household, wanted$household) && identical(found$status, wanted$status) &&
-  all(vapply(c("garp", "homothetic", "quasilinear"), function(name) identical(word(found[[name]]), wanted[[name]]), TRUE))
-expect(same, "the panel's verdicts beside those of rp-panel")
-cat(sprintf("a panel of %d households: %.2f of the time of clients/panel/rp-panel\n", count, second / first))
+wanted <- as.matrix(read.csv(file.path(room, "verdicts.csv"), colClasses = "character", na.strings = character()))
+texts <- rp_panel(long, "household", progress = FALSE)$texts
+expect(identical(unname(texts), unname(wanted)), "the panel's rows beside those of rp-panel-long")
+cat(sprintf("a panel of %d households: %.2f of the time of clients/panel/rp-panel-long\n", count, second / first))
 if (nzchar(shared)) {
   third <- system.time(again <- as.data.frame(rp_panel(long, "household", progress = FALSE, exe = normalizePath(shared))))[["elapsed"]]
   expect(identical(again, found), "the panel by the library beside that by the program")

@@ -16,7 +16,7 @@ seed_of <- function(seed) as.numeric(whole_word(seed, "seed", "0", "4294967295")
 # Returns a long frame of behaviours: all households, then all again, as often as `times`, from one stream of words. Prices and
 # quantities are whole numbers in units of their own, which change neither the axiom nor an index.
 drawn_data <- function(panel, own, times, seed) {
-  tables <- lapply(panel$answers[own], `[[`, "table")
+  tables <- lapply(own, table_in, panel = panel)
   budgets <- lapply(tables, budgets_of)
   drawn <- with_words(seed, lapply(seq_len(times), function(draw) lapply(budgets, behaviour)))
   rows <- vapply(tables, function(table) length(table$labels), 0L)
@@ -151,7 +151,7 @@ share_told <- function(is) {
 # Returns what a paper tells of a panel, by what it is called.
 summary_cells <- function(panel, digits, tests) {
   frame <- as.data.frame(panel)
-  own <- frame[frame$status %in% 0L, ]
+  own <- frame[answered(panel), ]
   count <- nrow(own)
   common <- c("Number" = count, "Without an answer" = nrow(frame) - count)
   index <- function(x, word) {
@@ -173,26 +173,33 @@ summary_cells <- function(panel, digits, tests) {
       if ("homothetic" %in% tests) c("Homothetic holds" = share_told(own$homothetic)),
       if ("quasilinear" %in% tests) c("Quasilinear holds" = share_told(own$quasilinear))
     ),
-    pump = c(common, "GARP holds" = share_told(own$garp), index(own$pump_ratio, "Money pump")),
+    pump = c(common, "GARP holds" = share_told(own$garp), index(own$pump, "Money pump")),
     power = c(common, index(own$power, "Power"))
   )
 }
 
 household_cells <- function(panel, digits, tests) {
   frame <- as.data.frame(panel)
-  word <- function(x) ifelse(frame$status %in% 0L, verdict_word(x), "")
-  index <- function(x) ifelse(is.na(x), "", shown_index(x, digits))
+  is_answer <- answered(panel)
+  word <- function(x) ifelse(is_answer, verdict_word(x), "")
+  index <- function(x) {
+    found <- rep("", length(x))
+    found[is_answer] <- shown_index(x[is_answer], digits)
+    found
+  }
   told <- function(x) ifelse(is.na(x), "", as.character(x))
   own <- switch(panel$ask,
     test = c(
       list(GARP = word(frame$garp), CCEI = index(frame$efficiency), exactly = told(bare(frame$efficiency))),
       lapply(frame[intersect(c("homothetic", "quasilinear"), tests)], word)
     ),
-    pump = list(GARP = word(frame$garp), `money pump` = index(frame$pump_ratio), exactly = told(bare(frame$pump_ratio))),
-    power = list(violations = told(frame$violations), draws = told(frame$draws), power = index(frame$power))
+    pump = list(GARP = word(frame$garp), `money pump` = index(frame$pump), exactly = told(bare(frame$pump))),
+    power = list(
+      violations = sub("/.*", "", panel$texts[, "power"]), draws = sub(".*/", "", panel$texts[, "power"]), power = index(frame$power)
+    )
   )
   keys <- lapply(panel$keys, function(it) as.character(it))
-  refused <- if (any(!frame$status %in% 0L)) list(refused = ifelse(frame$status %in% 0L, "", sub(":.*", "", frame$message)))
+  refused <- if (!all(is_answer)) list(refused = panel$texts[, "fault"])
   c(keys, own, refused)
 }
 

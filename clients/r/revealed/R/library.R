@@ -36,22 +36,24 @@ library_places <- function(windows = on_windows()) {
 loaded <- new.env(parent = emptyenv())
 
 # Returns the path of the package's own code where the library is inside of it, as in the package of a release; or nothing.
-library_inside <- function() if (!is.null(.Call(C_revealed_own, FALSE))) getLoadedDLLs()[["revealed"]][["path"]]
+library_inside <- function() if (!is.null(.Call(C_revealed_own, 0L))) getLoadedDLLs()[["revealed"]][["path"]]
 
-# Returns the call of a library, which is loaded once; or its wider call, NULL in a library up to 0.13.0, which has none.
-library_call <- function(path, wide = FALSE) {
-  if (identical(path, library_inside())) return(.Call(C_revealed_own, wide))
+# Returns the call of a library, which is loaded once; or its call "wide", NULL in a library up to 0.13.0, which has none, or "panel",
+# NULL in one up to 0.14.0.
+library_call <- function(path, which = "call") {
+  if (identical(path, library_inside())) return(.Call(C_revealed_own, match(which, c("call", "wide", "panel")) - 1L))
   if (is.null(loaded[[path]])) {
     found <- tryCatch(calls_in(dyn.load(path)), error = identity)
     if (inherits(found, "error")) no_program(path, " is no library of rp: ", conditionMessage(found))
     assign(path, found, envir = loaded)
   }
-  loaded[[path]][[if (wide) "wide" else "call"]]
+  loaded[[path]][[which]]
 }
 
 calls_in <- function(library) {
   of <- function(name) getNativeSymbolInfo(name, library, withRegistrationInfo = FALSE)$address
-  list(call = of("rp_answer"), wide = tryCatch(of("rp_answer_wide"), error = function(wrong) NULL))
+  more <- function(name) tryCatch(of(name), error = function(wrong) NULL)
+  list(call = of("rp_answer"), wide = more("rp_answer_wide"), panel = more("rp_panel"))
 }
 
 # The statuses that the program has not, and what is said of them.

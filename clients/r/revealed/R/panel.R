@@ -1,16 +1,5 @@
-# A panel: what is asked of each household of one long frame, on all processors.
-
-asked_of_panels <- list(
-  test = list(
-    class = "rp_test", words = function(more) c("certify", "table.csv"),
-    read = function(table, words, text, ran) read_verdict(table, text, ran$stated, ran$hint)
-  ),
-  pump = list(class = "rp_pump", words = function(more) c("pump", "table.csv"), read = function(table, words, text, ran) read_pump(table, text)),
-  power = list(
-    class = "rp_power", words = function(more) c("power", "table.csv", power_words(more$seed, more$draws)),
-    read = function(table, words, text, ran) read_power(table, words[3:4], text)
-  )
-)
+# A panel: the row of each household of one long frame, on all processors. The frame becomes long files with a column of ids, households
+# in blocks, and the rows are those of the call of panels (`long.R`).
 
 rp_panel <- function(data, id, ask = c("test", "pump", "power"), digits = NULL, levels = NULL, seed = NULL, draws = 1000, workers = NULL,
                      numbers = "exact", progress = interactive(), exe = NULL, wide = TRUE) {
@@ -26,36 +15,45 @@ rp_panel <- function(data, id, ask = c("test", "pump", "power"), digits = NULL, 
     stop(refused("OwnLevels", hint = plain_hint("OwnLevels")))
   }
   if (kind == "pump" && sides$own_money) bad_data("the money pump: ", own_money)
-  how <- asked_of_panels[[kind]]
-  words <- how$words(list(seed = seed, draws = draws))
-  engine <- engine_of(exe)
-  group <- group_of(data, id)
-  rows <- split(seq_len(nrow(data)), group)
-  # What fits is told by all households, which are rounded alike.
-  fit <- if (!is_rounded(digits)) fit_of(whole_sheet(sides, digits))
-  some <- function(numbers) {
-    tables <- lapply(rows[numbers], household_of, sides = sides, digits = digits, id = id, fit = fit)
-    answers_on(tables, words, how$read, engine, wide)
-  }
-  found <- in_parallel(length(rows), some, workers, progress)
-  lost <- which(!vapply(found, inherits, TRUE, c(how$class, "rp_error")))
-  found[lost] <- rep(list(failed(NA_integer_, "a process of R ended before its answer")), length(lost))
-  keys <- data[vapply(rows, `[`, 1L, 1), id, drop = FALSE]
-  keys <- as.data.frame(keys, row.names = seq_along(rows))
-  stop_where_all_are_refused(found, keys)
-  of <- list(keys = keys, answers = unname(found), ask = kind, data = data, id = id, digits = digits, levels = sides$levels, own_money = sides$own_money)
+  words <- panel_words(kind, seed, draws, wide)
+  long <- long_sheet(data, id, sides, digits)
+  engine <- panel_engine(exe)
+  some <- function(numbers) panel_rows(long, numbers, words, engine)
+  # A few households are asked about by one call.
+  found <- in_parallel(length(long$rows), some, if (length(long$rows) < 50) 1L else workers, progress)
+  if (any(vapply(found, is.null, TRUE))) stop(failed(NA_integer_, "a process of R ended before its answer"))
+  wrong <- Filter(function(it) inherits(it, "rp_error"), found)
+  if (length(wrong)) stop(wrong[[1]])
+  keys <- data[vapply(long$rows, `[`, 1L, 1), id, drop = FALSE]
+  keys <- as.data.frame(keys, row.names = seq_along(long$rows))
+  texts <- do.call(rbind, c(list(matrix("", 0, length(panel_columns), dimnames = list(NULL, panel_columns))), found))
+  refusals <- lapply(seq_along(long$rows), function(at) panel_refusal(long, texts[at, ], long$rows[[at]], data))
+  stop_where_all_are_refused(refusals, keys)
+  # A fault is told with its place in the frame.
+  for (at in which(nzchar(texts[, "fault"]))) texts[at, c("record", "column")] <- told_place(refusals[[at]])
+  of <- list(
+    keys = keys, texts = texts, refusals = refusals, ask = kind, data = data, id = id, digits = digits, levels = sides$levels, own_money = sides$own_money,
+    places = long$rows, sides = sides
+  )
   structure(of, class = "rp_panel")
 }
 
+# Returns the place of a fault in the frame, as texts.
+told_place <- function(refusal) {
+  place <- c(refusal$record, refusal$column)
+  if (length(place) < 2) return(c("", ""))
+  ifelse(is.na(place), "", as.character(place))
+}
+
 # Stops with the refusal of a panel whose households were all refused for one cause.
-stop_where_all_are_refused <- function(found, keys) {
-  cause <- vapply(found, function(it) if (inherits(it, "rp_refused")) it$fault else if (inherits(it, "rp_bad_data")) "rp_bad_data" else NA_character_, "")
+stop_where_all_are_refused <- function(refusals, keys) {
+  cause <- vapply(refusals, function(it) if (inherits(it, "rp_refused")) it$fault else if (inherits(it, "rp_bad_data")) "rp_bad_data" else NA_character_, "")
   if (!length(cause) || anyNA(cause) || length(unique(cause)) > 1) return(invisible())
-  first <- found[[1]]
-  who <- if (length(found) == 1) "the one household is refused" else paste("all", length(found), "households are refused for one cause, the first")
+  first <- refusals[[1]]
+  who <- if (length(refusals) == 1) "the one household is refused" else paste("all", length(refusals), "households are refused for one cause, the first")
   key <- paste(vapply(keys, function(it) quoted(as.character(it[1])), ""), collapse = ", ")
   first$message <- paste0(who, ", ", key, ": ", conditionMessage(first))
-  first$count <- length(found)
+  first$count <- length(refusals)
   class(first) <- c("rp_all_refused", class(first))
   stop(first)
 }
@@ -66,7 +64,7 @@ panel_sides <- function(data, id, levels = NULL) {
   if (missing(id) || !is.character(id) || !length(id)) bad_data("id names the column, or the columns, that tell the households apart")
   absent <- setdiff(id, names(data))
   if (length(absent)) bad_data("id: there is no column ", quoted(absent[1]), "; found: ", listed(names(data)))
-  taken <- intersect(id, answer_names)
+  taken <- intersect(id, panel_columns[-1])
   if (length(taken)) bad_data("id: the answer has a column ", quoted(taken[1]), " of its own; give the column another name")
   rest <- as.data.frame(unclass(as.list(data)[!names(data) %in% id]), optional = TRUE, stringsAsFactors = FALSE)
   sides <- sides_of(rest, in_panel = TRUE)
@@ -81,47 +79,15 @@ panel_sides <- function(data, id, levels = NULL) {
   sides
 }
 
-# The names that a panel's frame has beside those of the households.
-answer_names <- c(
-  "status", "garp", "afriat", "ccei", "efficiency", "attained", "homothetic", "quasilinear", "wide", "pump", "pump_ratio", "power", "violations", "draws",
-  "message"
-)
-
-# Returns all that a panel has as one sheet, by which it is told what fits.
-whole_sheet <- function(sides, forms) {
-  count <- length(sides$goods)
-  list(forms = forms, kinds = rep(c("price", "quantity"), each = count), columns = c(sides$prices, sides$quantities))
-}
-
-# Returns the number of each row's household, in the order in which they first come.
-group_of <- function(data, id) {
-  codes <- lapply(id, function(name) match(data[[name]], unique(data[[name]])))
-  all <- do.call(paste, c(codes, sep = " "))
-  match(all, unique(all))
-}
-
-# Returns the table of one household, or the condition in its place.
-household_of <- function(at, sides, digits, id, fit) {
+# Returns the table of the household in a row of a panel.
+table_in <- function(panel, at) {
+  rows <- panel$places[[at]]
+  sides <- panel$sides
   part <- list(
-    goods = sides$goods, prices = lapply(sides$prices, `[`, at), quantities = lapply(sides$quantities, `[`, at),
-    labels = sides$labels[at], levels = if (!is.null(sides$levels)) sides$levels[at], left_out = sides$left_out, own_money = sides$own_money
+    goods = sides$goods, prices = lapply(sides$prices, `[`, rows), quantities = lapply(sides$quantities, `[`, rows),
+    labels = sides$labels[rows], levels = if (!is.null(sides$levels)) sides$levels[rows], left_out = sides$left_out, own_money = sides$own_money
   )
-  tryCatch({
-    table <- suppressWarnings(table_of_sides(part, digits, id_advice(id)))
-    table$fit <- fit
-    table
-  }, rp_error = function(wrong) wrong)
-}
-
-# Returns the answer on each table, or the condition in its place.
-answers_on <- function(tables, words, read, engine, wide) {
-  found <- tables
-  own <- which(vapply(tables, inherits, TRUE, "rp_table"))
-  ran <- wide_answers(words, lapply(tables[own], function(table) list(table.csv = csv_lines(table))), engine, wide)
-  found[own] <- Map(function(table, ran) {
-    tryCatch(read(table, words, text_of(ran, list(table)), ran), rp_error = function(wrong) wrong)
-  }, tables[own], ran)
-  found
+  suppressWarnings(table_of_sides(part, panel$digits, id_advice(panel$id)))
 }
 
 # Returns how many processes run at once: as many as there are processors, or two where R's checks ask for that. Windows has no
@@ -140,7 +106,7 @@ in_parallel <- function(count, some, workers, progress) {
   bar <- if (progress && count > 0) txtProgressBar(0, count, style = 3, file = stderr())
   found <- list()
   for (batch in batches) {
-    parts <- split(batch, ceiling(seq_along(batch) * 4 * workers / length(batch)))
+    parts <- split(batch, ceiling(seq_along(batch) * (if (workers > 1) 4 * workers else 1) / length(batch)))
     answers <- mclapply(parts, some, mc.cores = if (on_windows()) 1L else workers, mc.set.seed = FALSE, mc.allow.recursive = FALSE)
     # Where a process ended before its answer, there is none for any of its households.
     answers <- Map(function(it, part) if (is.list(it) && length(it) == length(part)) it else vector("list", length(part)), answers, parts)
@@ -153,29 +119,23 @@ in_parallel <- function(count, some, workers, progress) {
 
 # ---- its methods
 
-# Returns what is told of an answer: its class is that of the panel, or it is a condition.
-answered <- function(x) vapply(x$answers, inherits, TRUE, asked_of_panels[[x$ask]]$class)
+# Returns which rows have verdicts.
+answered <- function(x) !nzchar(x$texts[, "fault"])
 
 as.data.frame.rp_panel <- function(x, row.names = NULL, optional = FALSE, ...) {
-  is_answer <- answered(x)
-  told <- function(name, none) {
-    vapply(seq_along(is_answer), function(at) if (is_answer[at]) x$answers[[at]][[name]] else none, none)
-  }
-  index <- function(name) vapply(seq_along(is_answer), function(at) if (is_answer[at]) bare(x$answers[[at]][[name]]) else NA_character_, "")
-  status <- vapply(x$answers, function(it) if (inherits(it, "rp_error")) c(it$status, NA_integer_)[1] else 0L, 0L)
-  message <- vapply(x$answers, function(it) {
-    if (inherits(it, "rp_error")) conditionMessage(it) else paste(reason_lines(it$reasons), collapse = "; ")
-  }, "")
-  own <- switch(x$ask,
-    test = c(
-      list(garp = told("garp", NA), afriat = told("afriat", NA)), beside("ccei", index("efficiency"), exact_name = "efficiency"),
-      lapply(named(c("attained", "homothetic", "quasilinear"), c("attained", "homothetic", "quasilinear")), told, none = NA),
-      list(wide = vapply(seq_along(is_answer), function(at) if (is_answer[at]) paste(x$answers[[at]]$wide, collapse = " ") else NA_character_, ""))
-    ),
-    pump = c(list(garp = told("garp", NA)), beside("pump", index("ratio"), exact_name = "pump_ratio")),
-    power = list(power = told("power", NA_real_), violations = told("violations", NA_integer_), draws = told("draws", NA_integer_))
+  text <- function(name) unname(x$texts[, name])
+  truth <- function(name, yes, no) ifelse(text(name) %in% yes, TRUE, ifelse(text(name) %in% no, FALSE, NA))
+  whole <- function(name) as.integer(ifelse(nzchar(text(name)), text(name), NA))
+  floor <- function(name) as.numeric(ifelse(nzchar(text(name)), text(name), NA))
+  share <- function(name) exact(ifelse(nzchar(text(name)), text(name), NA))
+  own <- list(
+    observations = whole("observations"), goods = whole("goods"), garp = truth("garp", "holds", "violated"),
+    efficiency = share("efficiency"), efficiency_floor = floor("efficiency_floor"), attained = truth("attained", "yes", "no"),
+    homothetic = truth("homothetic", "holds", "violated"), quasilinear = if (x$own_money) rep(NA, nrow(x$texts)) else truth("quasilinear", "holds", "violated"),
+    pump = share("pump"), pump_floor = floor("pump_floor"), power = share("power"),
+    fault = text("fault"), record = whole("record"), column = whole("column")
   )
-  frame_of(c(as.list(x$keys), list(status = status), own, list(message = message)))
+  frame_of(c(as.list(x$keys), own))
 }
 
 print.rp_panel <- function(x, ...) {
@@ -185,12 +145,12 @@ print.rp_panel <- function(x, ...) {
 
 summary.rp_panel <- function(object, ...) {
   frame <- as.data.frame(object)
-  own <- frame[frame$status %in% 0L, ]
+  own <- frame[answered(object), ]
   title <- paste0(nrow(frame), " households, ", nrow(frame) - nrow(own), " of them without an answer")
   if (object$ask != "test") {
-    return(summary_of(as.data.frame(t(as.matrix(summary(own[[object$ask]])))), title))
+    return(summary_of(as.data.frame(t(as.matrix(summary(as.double(own[[object$ask]]))))), title))
   }
-  counts <- vapply(own[tests_of(object$own_money)], function(it) {
+  counts <- vapply(own[intersect(tests_of(object$own_money), names(own))], function(it) {
     c(holds = sum(it %in% TRUE), violated = sum(it %in% FALSE), withheld = sum(is.na(it)))
   }, c(holds = 0L, violated = 0L, withheld = 0L))
   summary_of(as.data.frame(t(counts)), title)

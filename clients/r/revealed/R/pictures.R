@@ -119,16 +119,16 @@ plot.rp_panel <- function(x, random = NULL, type = c("histogram", "cumulative"),
 
 # Returns which share of the households that have an answer has an index above 0.90, and above 0.95, by the exact index.
 shares_above <- function(panel) {
-  index <- exact(vapply(panel$answers[answered(panel)], function(it) bare(it$efficiency), ""))
+  index <- exact(unname(panel$texts[answered(panel), "efficiency"]))
   share <- function(level) 100 * mean(as.numeric(index > exact(level)))
   sprintf("%.1f%% above 0.90, %.1f%% above 0.95", share("9/10"), share("19/20"))
 }
 
 # Returns the index of each household that has one, as doubles that only a whole 1 lets read 1.
 index_of <- function(x) {
-  frame <- as.data.frame(x)
-  found <- frame[[c(test = "ccei", pump = "pump", power = "power")[[x$ask]]]]
-  found[!is.na(found)]
+  own <- answered(x)
+  if (!any(own)) return(numeric())
+  as.double(exact(unname(x$texts[own, c(test = "efficiency", pump = "pump", power = "power")[[x$ask]]])))
 }
 
 draw_histogram <- function(own, breaks, xlab, ylab, main, ...) {

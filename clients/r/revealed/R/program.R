@@ -10,7 +10,7 @@ engine_of <- function(exe = NULL) {
 # Returns what answers for the wider edition, or NULL where it is not there: the wider call of the library; else the program that
 # RP_WIDE names, or that stands beside the program.
 wide_engine <- function(engine) {
-  call <- if (!is.null(engine$call)) library_call(engine$path, wide = TRUE)
+  call <- if (!is.null(engine$call)) library_call(engine$path, "wide")
   if (!is.null(call)) return(list(call = call))
   named <- Sys.getenv("RP_WIDE")
   found <- if (nzchar(named)) on_path(named) else if (!is.null(engine$program)) Find(is_program, wide_places(engine$program))
@@ -196,8 +196,8 @@ read_text <- function(path) {
 
 # Returns the file, the fault and its places of a refusal, as in `rp: table.csv: BadNumber record 2 column 5`; else NULL.
 told_refusal <- function(ran) {
-  form <- "^rp: (([A-Za-z_-]+)\\.(csv|json): )?([A-Z][A-Za-z]*)(( (record|column|budget|menu|item) [0-9]+)*)$"
-  parts <- regmatches(ran$said, regexec(form, ran$said))[[1]]
+  form <- "^rp(?:-panel)?: (([A-Za-z_-]+)\\.(csv|json): )?([A-Z][A-Za-z]*)(( (record|column|budget|menu|item) [0-9]+)*)$"
+  parts <- regmatches(ran$said, regexec(form, ran$said, perl = TRUE))[[1]]
   if (!ran$status %in% 4L || !length(parts)) return(NULL)
   words <- strsplit(trimws(parts[6]), " ", fixed = TRUE)[[1]]
   odd <- seq_along(words) %% 2 == 1

@@ -5,9 +5,10 @@
 \alias{as.data.frame.rp_panel}
 \title{The Verdict on Each Household of a Panel}
 \description{
-Runs \code{\link{rp_test}}, \code{\link{rp_pump}} or \code{\link{rp_power}} on each household, subject or region of a long data
-frame, on all processors. A household whose data are refused has its refusal, and the others go on; where all are refused for one
-cause, the call stops with it (\code{rp_all_refused}).
+Makes the table of the households, subjects or regions of a long data frame, on all processors, by the proved program \code{rp-panel}, which
+stands beside \code{rp} or is what the variable \code{RP_PANEL} names, or by the call of the library. A household whose rows are no table has
+its fault, and the others go on; where all have the same, the call stops with it (\code{rp_all_refused}). Households are told apart by the texts of their
+ids, without the blanks round them. A row without an id is no household's, and has a row of its own behind them.
 }
 \usage{
 rp_panel(data, id, ask = c("test", "pump", "power"), digits = NULL, levels = NULL,
@@ -20,19 +21,20 @@ rows of a household need not stand together. Budget lines of two goods may be ke
 \code{p_NAME}: these are exchanged, which is exact, and each row has money of its own then: money
 pumps are not asked of it, and \code{quasilinear} is \code{NA}.}
 \item{id}{the name of the column, or of the columns, that tell the households apart.}
-\item{ask}{what is asked of each: the verdicts, the money pump, or the power of the test.}
+\item{ask}{what is asked of each: the verdicts, and beside them the greatest money pump ratio, or the power of the test.}
 \item{digits, levels, numbers, exe, wide}{as for \code{\link{rp_test}}. What fits is told by all households together.}
 \item{seed, draws}{as for \code{\link{rp_power}}, the same for each household.}
 \item{workers}{how many run at once; else as many as there are processors, two where R's checks ask for that, and one on Windows.}
 \item{progress}{whether a bar is shown, on standard error.}
 }
 \value{
-An \code{rp_panel}: \code{keys}, a data frame of \code{id} in the order in which the households first come, and
-\code{answers}, a list of as many answers, or conditions of the class \code{rp_error}. \code{as.data.frame} gives a row for
-each, with the program's \code{status} (0 with an answer, 4 with a refusal, \code{NA} where it was not asked), a
-\code{message}, and: of tests \code{garp}, \code{afriat}, \code{homothetic}, \code{quasilinear} and \code{attained} as logicals,
-\code{ccei} as the nearest double, which is 1 for an index of 1 alone, \code{efficiency}, the exact index, and \code{wide}, the names of the verdicts that
-\code{rp} itself withholds; of money pumps \code{pump} and \code{pump_ratio} likewise; of power \code{power}, \code{violations} and \code{draws}.
+An \code{rp_panel}: \code{keys}, a data frame of \code{id} in the order in which the households first come, \code{texts}, a matrix of the
+fields that the program writes of each, and \code{refusals}, a list of \code{NULL} or of the fault in words, a condition of the class \code{rp_error}.
+\code{as.data.frame} gives a row for each, with the columns that tables of households have everywhere: \code{observations}, \code{goods};
+\code{garp}, \code{attained}, \code{homothetic} and \code{quasilinear} as logicals; \code{efficiency}, the exact index, and
+\code{efficiency_floor}, the number to calculate with, of six places, rounded down; where they are asked \code{pump} and \code{pump_floor}
+likewise, and \code{power}, the share of behaviours that fail; \code{fault}, empty where there are verdicts, with the \code{record} and the
+\code{column} of the data frame. The certificate of a household is that of \code{\link{rp_test}} on its rows.
 }
 \examples{
 if (!is.null(rp_program(must = FALSE))) {

@@ -14,7 +14,7 @@ typedef int32_t rp_call(
     uint8_t *told, size_t told_room,
     uint64_t *output_length, uint64_t *told_length);
 
-/* `rp_answer`, or `rp_answer_wide` where `wide` is not 0; NULL where the library is not inside. */
-rp_call *revealed_inside(int wide);
+/* `rp_answer`, or by 1 `rp_answer_wide`, by 2 `rp_panel`; NULL where the library is not inside. */
+rp_call *revealed_inside(int which);
 
 #endif

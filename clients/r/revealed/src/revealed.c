@@ -104,9 +104,9 @@ static SEXP revealed_answer(SEXP library, SEXP words, SEXP names, SEXP files) {
     }
 }
 
-/* Returns the call of the library that is inside the package, or its wider one, or NULL. */
-static SEXP revealed_own(SEXP wide) {
-    rp_call *call = revealed_inside(asLogical(wide) == TRUE);
+/* Returns the call of the library that is inside the package, or its wider one, or that of panels, or NULL. */
+static SEXP revealed_own(SEXP which) {
+    rp_call *call = revealed_inside(asInteger(which));
     return call ? R_MakeExternalPtrFn((DL_FUNC)call, R_NilValue, R_NilValue) : R_NilValue;
 }
 

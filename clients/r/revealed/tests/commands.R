@@ -143,7 +143,7 @@ said <- message_of(rp_utility(years, bundles = c(bread = 1 / 3, wine = 2)))
 stopifnot(grepl("digits = c(NA, 6)", said, fixed = TRUE))
 panel <- rbind(cbind(id = "a", inverse), cbind(id = "b", transform(inverse, q_x = c(1234.5, 1))))
 stopifnot(grepl("digits = c(6, 3)", conditionMessage(caught(rp_panel(panel, "id", workers = 1), "rp_all_refused")), fixed = TRUE))
-stopifnot(all(as.data.frame(rp_panel(panel, "id", digits = c(6, 3), workers = 1))$status == 0))
+stopifnot(all(as.data.frame(rp_panel(panel, "id", digits = c(6, 3), workers = 1))$fault == ""))
 
 # ---- a panel that is taken for one household, and names that are none
 long <- data.frame(household = c("a", "a", "b", "b"), obs = c(1, 2, 1, 2), p_x = 1, q_x = 1)
@@ -155,9 +155,10 @@ wrong <- caught(rp_test(long[-1]), "rp_bad_data")
 stopifnot(grepl("rp_panel(data, id", conditionMessage(wrong), fixed = TRUE), grepl("rows 1 and 3", conditionMessage(wrong)))
 caught(rp_test(rbind(a = 1, a = 2), rbind(a = 1, a = 2)), "rp_bad_data")
 caught(rp_test(transform(long, obs = c(NA, NA, 1, 2))), "rp_bad_data")
-twice <- as.data.frame(rp_panel(transform(long, household = c("a", "a", "b", "b"), obs = c(1, 2, 1, 1)), "household", workers = 1))
-stopifnot(identical(twice$garp, c(TRUE, NA)), grepl("tell the households apart", twice$message[2]))
-caught(rp_panel(transform(long, status = household), "status"), "rp_bad_data")
+twice <- rp_panel(transform(long, household = c("a", "a", "b", "b"), obs = c(1, 2, 1, 1)), "household", workers = 1)
+stopifnot(identical(as.data.frame(twice)$garp, c(TRUE, NA)), identical(as.data.frame(twice)$fault, c("", "Pooled")))
+stopifnot(grepl("tell the households apart", conditionMessage(twice$refusals[[2]])))
+caught(rp_panel(transform(long, fault = household), "fault"), "rp_bad_data")
 # frames of other packages, whose brackets are not those of R's own
 strange <- structure(long, class = c("strange", "data.frame"))
 `[.strange` <- function(...) stop("the brackets of another package")
@@ -185,9 +186,9 @@ for (name in c("q_x", "q_y")) many[[name]] <- sample(1:9, 150, TRUE)
 people <- rp_panel(many, "id", workers = 2)
 frame <- as.data.frame(people)
 frame$age <- 20 + frame$id
-stopifnot(is.logical(frame$garp), is.double(frame$ccei), identical(frame$ccei == 1, texts(frame$efficiency) == "1"))
-stopifnot(all(diff(frame$ccei[order(frame$efficiency)]) >= 0), is.finite(coef(lm(ccei ~ age, frame))), mean(frame$garp) < 1)
-stopifnot(sum(hist(frame$ccei, plot = FALSE)$counts) == 30, nrow(rbind(frame, frame)) == 60, nrow(merge(frame, frame["id"])) == 30)
+stopifnot(is.logical(frame$garp), is.double(frame$efficiency_floor), identical(frame$efficiency_floor == 1, texts(frame$efficiency) == "1"))
+stopifnot(all(diff(frame$efficiency_floor[order(frame$efficiency)]) >= 0), is.finite(coef(lm(efficiency_floor ~ age, frame))), mean(frame$garp) < 1)
+stopifnot(sum(hist(frame$efficiency_floor, plot = FALSE)$counts) == 30, nrow(rbind(frame, frame)) == 60, nrow(merge(frame, frame["id"])) == 30)
 path <- tempfile()
 write.csv(frame, path, row.names = FALSE)
 stopifnot(identical(read.csv(path, colClasses = c(efficiency = "character"))$efficiency, texts(frame$efficiency)))
@@ -195,9 +196,9 @@ capture.output(summary(frame), str(frame), print(frame))
 
 # ---- panels of the money pump and of power
 pumps <- as.data.frame(rp_panel(many, "id", ask = "pump", workers = 2))
-stopifnot(identical(pumps$garp, frame$garp), identical(pumps$pump == 0, frame$garp), all(pumps$pump < 1))
+stopifnot(identical(pumps$garp, frame$garp), identical(as.double(pumps$pump) == 0, frame$garp), all(pumps$pump_floor < 1))
 one <- as.data.frame(rp_panel(many[many$id <= 3, ], "id", ask = "power", seed = 5, draws = 100, workers = 2))
-stopifnot(one$power[2] == rp_power(many[many$id == 2, -1], seed = 5, draws = 100)$power, one$draws == 100)
+stopifnot(as.double(one$power[2]) == rp_power(many[many$id == 2, -1], seed = 5, draws = 100)$power)
 caught(rp_panel(many, "id", ask = "power"), "rp_bad_data")
 
 # ---- doubles that are no short decimals
@@ -218,9 +219,9 @@ floats <- data.frame(home = c("u", "u", "v"), p_a = c(3.18, 2.5, 1.1), p_b = c(1
 every <- caught(rp_panel(floats, "home", workers = 1), "rp_all_refused")
 stopifnot(inherits(every, "rp_refused"), every$fault == "TooManyDecimals", every$count == 2, startsWith(conditionMessage(every), "all 2 households are refused for one cause, the first, 'u': TooManyDecimals"))
 stopifnot(grepl("digits = c(2, 6)", conditionMessage(every), fixed = TRUE), grepl("numbers = 'shortest'", conditionMessage(every), fixed = TRUE))
-stopifnot(as.data.frame(rp_panel(floats, "home", workers = 1, numbers = "shortest"))$status == 0)
+stopifnot(as.data.frame(rp_panel(floats, "home", workers = 1, numbers = "shortest"))$fault == "")
 two <- as.data.frame(rp_panel(transform(floats, p_a = c(3.18, 2.5, 0)), "home", workers = 1))
-stopifnot(two$status == 4, grepl("TooManyDecimals", two$message[1]), grepl("ZeroPrice", two$message[2]))
+stopifnot(identical(two$fault, c("TooManyDecimals", "ZeroPrice")), identical(two$record, c(1L, 3L)), two$column == 2)
 if (requireNamespace("gmp", quietly = TRUE)) {
   long <- gmp::as.bigz(10)^5000
   for (x in list(long, gmp::as.bigq(1) / long)) {
@@ -232,14 +233,14 @@ if (requireNamespace("gmp", quietly = TRUE)) {
 
 # ---- random behaviour on the same budgets
 random <- rp_random_panel(people, times = 2, seed = 11, workers = 2)
-stopifnot(length(random$answers) == 60, identical(random$data, rp_random_panel(people, times = 2, seed = 11, workers = 2)$data))
+stopifnot(nrow(random$texts) == 60, identical(random$data, rp_random_panel(people, times = 2, seed = 11, workers = 2)$data))
 spent <- function(d) with(d, as.numeric(p_x) * as.numeric(q_x) + as.numeric(p_y) * as.numeric(q_y))
 first <- random$data[random$data$draw == 1, ]
 # in a unit of each household's own, a power of ten
 share <- spent(first) / spent(many)
 unit <- 10^ceiling(log10(share) - 1e-9)
 stopifnot(share <= unit, share > unit * (1 - 1e-3), tapply(unit, many$id, function(it) length(unique(it))) == 1, first$p_x == many$p_x)
-stopifnot(length(rp_random_panel(people, times = 1)$answers) == 30)
+stopifnot(nrow(rp_random_panel(people, times = 1)$texts) == 30)
 for (seed in list(-1, 4294967296, "x", NULL)) caught(rp_random_panel(people, times = 1, seed = seed), "rp_bad_data")
 
 # ---- pictures and tables

@@ -95,7 +95,7 @@ for (call in list(
   function(exe) rp_check(list(P, Q), sub("4/5", "9/10", rp_test(P, P)$certificate), exe = exe)
 )) stopifnot(!inherits(both(call), "told"))
 # the wider call
-stopifnot(!is.null(revealed:::library_call(library, wide = TRUE)), rp_test(long_p, long_q, exe = library)$wide == "homothetic")
+stopifnot(!is.null(revealed:::library_call(library, "wide")), rp_test(long_p, long_q, exe = library)$wide == "homothetic")
 if (!is.null(revealed:::wide_engine(list(program = program)))) both(function(exe) rp_test(long_p, long_q, exe = exe))
 for (it in list(
   list(function(exe) rp_test(rbind(0:1), rbind(1:2), exe = exe), "ZeroPrice"), list(function(exe) rp_demand(P, Q, new = c(1, 0), m = 3, exe = exe), "ZeroPrice"),
@@ -130,6 +130,6 @@ stopifnot(revealed:::by_library(c("analyse", "a"), list(list(a = raw())), call)[
 
 # a panel, by one process and by two
 long <- data.frame(id = c(1, 1, 2, 2, 3), p_a = c(1, 2, 1, 2, 0), p_b = c(2, 1, 2, 1, 1), q_a = c(1, 2, 2, 1, 1), q_b = c(2, 1, 1, 2, 1))
-for (ask in c("test", "pump", "power")) {
+for (ask in if (!is.null(revealed:::library_call(library, "panel"))) c("test", "pump", "power")) {
   for (workers in 1:2) both(function(exe) as.data.frame(rp_panel(long, "id", ask, seed = 1, draws = 20, workers = workers, exe = exe)))
 }

@@ -24,8 +24,8 @@ budgets <- data.frame(obs = c("low", "high"), p_a = 1, w = 1)
 choices <- data.frame(budget = c("low", "high"), q_a = 1, n = 1)
 wrong <- caught(rp_random(budgets, choices, exe = fake("exit 4", "rp: NeedUnit budget 2")), "rp_refused")
 stopifnot(wrong$fault == "NeedUnit", wrong$budget == 2, wrong$label == "high")
-failing <- rp_panel(data.frame(id = 1, p_a = 1, q_a = 1), "id", exe = fake("exit 6", "rp: out of memory"))
-stopifnot(identical(as.data.frame(failing)$status, 6L), is.na(as.data.frame(failing)$garp))
+failing <- caught(rp_panel(data.frame(id = 1, p_a = 1, q_a = 1), "id", exe = fake("exit 6", "rp-panel: out of memory", name = "rp-panel")), "rp_failed")
+stopifnot(failing$status == 6, failing$said == "rp-panel: out of memory")
 
 certificate <- paste0(
   "{\"items\":[{\"item\":\"garp\",\"ranks\":[1]},{\"item\":\"afriat\",\"lambda\":[\"1\"],\"utility\":[\"0\"]},{\"above\":[],\"at_ranks\":[1],\"below\":[1],",
@@ -53,8 +53,7 @@ for (said in other) {
     stopifnot(wrong$status == 0, grepl("no answer of rp", conditionMessage(wrong)))
   }
 }
-failing <- as.data.frame(rp_panel(cbind(id = 1, plain), "id", exe = fake("exit 0", out = "hello")))
-stopifnot(is.na(failing$garp), grepl("no answer", failing$message))
+stopifnot(grepl("no answer", conditionMessage(caught(rp_panel(cbind(id = 1, plain), "id", exe = fake("exit 0", out = "hello", name = "rp-panel")), "rp_failed"))))
 
 # by argument, then by the variable, then by the path
 bad <- fake("exit 6")

@@ -74,11 +74,6 @@ if (.Platform$OS.type != "windows") {
   stopifnot(is.na(texts(made$bounds$lower)), !made$bounds$wide, grepl("step 7; rp-wide may give it", made$bounds$reason))
   stopifnot(any(grepl("^homothetic holds .by rp-wide", capture.output(print(rp_trial(7, 3, 2, exe = exe))))))
   stopifnot(rp_trial(7, 3, 2, exe = exe)$homothetic, rp_trial(7, 3, 2, exe = exe)$wide == "homothetic", is.na(rp_trial(7, 3, 2, exe = exe, wide = FALSE)$homothetic))
-  panel <- data.frame(home = rep(c("u", "v"), each = 3), p_a = p[, 1], p_b = p[, 2], q_a = q[, 1], q_b = q[, 2])
-  found <- as.data.frame(rp_panel(panel, "home", workers = 1, exe = exe))
-  stopifnot(found$homothetic, found$wide == "homothetic")
-  found <- as.data.frame(rp_panel(panel, "home", workers = 1, exe = exe, wide = FALSE))
-  stopifnot(is.na(found$homothetic), found$wide == "", grepl("wide = FALSE", found$message))
 
   # where nothing is withheld it is not asked; where it is not there, or fails, that is told
   exe <- stand_ins(list(certify = wide), list(certify = ""))

@@ -1,0 +1,223 @@
+# The call of panels: a long file with a column of ids, and the rows that come of it. Nothing is taken for an answer but a row for each
+# household, and for each record without one.
+
+panel_columns <- c(
+  "household", "observations", "goods", "garp", "efficiency", "efficiency_floor", "attained", "homothetic", "quasilinear", "pump", "pump_floor", "power",
+  "fault", "record", "column"
+)
+
+# So many households are asked about in one call at most.
+panel_block <- 200
+
+# Returns the words of the call over a long file.
+panel_words <- function(kind, seed, draws, wide) {
+  c(
+    "long.csv", "--id", "household", if (kind == "pump") "--pump", if (kind == "power") c("--power", rev(power_words(seed, draws))),
+    if (wide) "--wide"
+  )
+}
+
+# Returns what answers: the call of the library, or the program `rp-panel`. Either is what `exe` names, where that is no `rp`; else what
+# RP_PANEL names, else what belongs to the library or the program that is found.
+panel_engine <- function(exe = NULL) {
+  named <- Sys.getenv("RP_PANEL")
+  own <- if (!is.null(exe)) exe else if (nzchar(named)) named
+  if (!is.null(own)) {
+    path <- on_path(own)
+    if (is.null(path)) no_program(if (is.null(exe)) "the variable RP_PANEL" else "the argument exe", " names ", quoted(own), ", which is no program")
+    if (!is_library(path) && basename(path) != program_name()) return(list(program = path))
+  }
+  engine <- engine_of(exe)
+  call <- if (!is.null(engine$call)) library_call(engine$path, "panel")
+  if (!is.null(call)) return(list(call = call))
+  path <- if (is.null(engine$call)) engine$program else engine$path
+  found <- Find(is_program, panel_places(path))
+  if (is.null(found)) no_program(path, " has no call of panels, and no ", panel_name(), " stands beside it: take both of one release, or set RP_PANEL")
+  list(program = found)
+}
+
+panel_name <- function(windows = on_windows()) if (windows) "rp-panel.exe" else "rp-panel"
+
+# Returns where the program of panels may stand beside a program, or beside what that leads to; and where `rt` builds both.
+panel_places <- function(program) {
+  folders <- unique(dirname(c(program, normalizePath(program, "/", mustWork = FALSE))))
+  c(file.path(folders, panel_name()), file.path(dirname(dirname(folders)), "rp_panel_program", "out", "rp_panel_program"))
+}
+
+# ---- the long file
+
+# Returns a frame as a long file: `cells` has the texts of each column after the ids, `rows` the rows of each household and then each
+# row without one, `ids` its id, which is empty where it has none that is taken.
+long_sheet <- function(data, id, sides, digits) {
+  count <- length(sides$goods)
+  levels <- !is.null(sides$levels)
+  columns <- c(sides$prices, sides$quantities, if (levels) list(sides$levels))
+  kinds <- c(rep(c("price", "quantity"), each = count), if (levels) "")
+  of_kind <- list(price = digits[[1]], quantity = digits[[2]])
+  cells <- lapply(seq_along(columns), function(at) cells_of(columns[[at]], if (nzchar(kinds[at])) of_kind[[kinds[at]]]))
+  ids <- ids_of(data, id)
+  taken <- nzchar(ids) & nchar(ids, "bytes") <= limit("long.household_bytes")
+  rows <- unname(split(which(taken), match(ids[taken], unique(ids[taken]))))
+  rows <- c(rows, as.list(which(!taken)))
+  whole <- list(
+    file = "table", header = c("household", sprintf("p_%d", seq_len(count)), sprintf("q_%d", seq_len(count)), if (levels) "e"),
+    names = c(id[1], price_names(sides), paste0("q_", sides$goods), if (levels) "e"), kinds = c("", kinds), columns = c(list(ids), columns),
+    labels = labels_in(sides$labels), forms = digits
+  )
+  # What fits is told by all households, which are rounded alike.
+  whole$fit <- if (!is_rounded(digits)) fit_of(whole)
+  c(whole, list(cells = cells, ids = vapply(rows, function(at) ids[at[1]], ""), rows = rows, is_named = rep(c(TRUE, FALSE), c(length(rows) - sum(!taken), sum(!taken)))))
+}
+
+# Returns the texts of numbers. What is no plain number is refused, however it is written; so it is not. One that has too many digits
+# for a text has one that is refused for the same fault.
+cells_of <- function(column, form) {
+  texts <- tryCatch(number_texts(column, form), rp_too_long = function(wrong) {
+    vapply(seq_along(column), function(at) {
+      tryCatch(number_texts(column[at], form), rp_too_long = function(it) if (it$fault == "TooLarge") strrep("9", 30) else paste0("0.", strrep("3", 30)))
+    }, "")
+  })
+  ifelse(grepl(plain, texts, useBytes = TRUE), texts, "?")
+}
+
+# Returns the id of each row: the text of its column, without the blanks round it, or of several columns as a record of CSV; empty
+# where one is missing.
+ids_of <- function(data, id) {
+  parts <- lapply(id, function(name) id_texts(data[[name]]))
+  if (length(parts) == 1) return(parts[[1]])
+  whole <- Reduce(`&`, lapply(parts, nzchar))
+  ifelse(whole, do.call(paste, c(lapply(parts, csv_field), sep = ",")), "")
+}
+
+id_texts <- function(x) {
+  if (is.list(x)) bad_data("id: a column is a list")
+  whole <- is.double(x) && is.null(attributes(x))
+  text <- if (!whole) as.character(x) else ifelse(is.finite(x) & x == floor(x) & abs(x) < 1e15, sprintf("%.0f", x), as.character(x))
+  text[is.na(x)] <- ""
+  gsub("^[ \t]+|[ \t]+$", "", enc2utf8(text), useBytes = TRUE)
+}
+
+# Quotes the fields that have to be.
+csv_field <- function(text) ifelse(grepl("[\",\r\n]", text, useBytes = TRUE), paste0("\"", gsub("\"", "\"\"", text, fixed = TRUE), "\""), text)
+
+# Returns the labels of the rows as they are told.
+labels_in <- function(labels) {
+  if (is.factor(labels)) labels <- as.character(labels)
+  labels <- as.vector(labels)
+  is_whole <- is.double(labels) && all(is.na(labels) | is.finite(labels) & labels == floor(labels) & abs(labels) < 2^31)
+  if (is_whole) as.integer(labels) else labels
+}
+
+# ---- the call
+
+# Returns the rows of some households, by their numbers: a vector of the texts of the columns for each, or what went wrong for all.
+panel_rows <- function(long, numbers, words, engine) {
+  blocks <- unlist(lapply(split(numbers, long$is_named[numbers]), function(own) split(own, ceiling(seq_along(own) / panel_block))), recursive = FALSE)
+  found <- vector("list", length(numbers))
+  for (block in blocks) {
+    rows <- tryCatch(block_rows(long, block, words, engine), rp_error = function(wrong) rep(list(wrong), length(block)))
+    found[match(block, numbers)] <- rows
+  }
+  found
+}
+
+block_rows <- function(long, block, words, engine) {
+  pooled <- vapply(block, function(at) long$is_named[at] && anyDuplicated(long$labels[long$rows[[at]]]) > 0, TRUE)
+  asked <- block[!pooled]
+  found <- rep(list(stats::setNames(c("", rep("", 11), "Pooled", "", ""), panel_columns)), length(block))
+  if (length(asked)) found[!pooled] <- called_rows(long, asked, words, engine)
+  found
+}
+
+# A household with more records than a table has is refused for that alone, so no more of its records decide anything.
+called_rows <- function(long, block, words, engine) {
+  rows <- unlist(lapply(long$rows[block], utils::head, limit("table.records") + 1L))
+  lines <- c(paste(long$header, collapse = ","), do.call(paste, c(list(csv_field(long$columns[[1]][rows])), lapply(long$cells, `[`, rows), sep = ",")))
+  ran <- answer(words, list(long.csv = lines), engine)
+  if (!ran$status %in% 0L) {
+    told <- told_refusal(ran)
+    if (is.null(told)) stop(failed(ran$status, ran$said))
+    stop(refused(told$fault, "table", told$places, hint = panel_hint(told$fault)))
+  }
+  named <- long$is_named[block]
+  table <- panel_answer(ran$out, long$ids[block][named], sum(!named))
+  with_record <- nzchar(table[, "record"])
+  table[with_record, "record"] <- as.character(rows[as.integer(table[with_record, "record"])])
+  lapply(seq_len(nrow(table)), function(at) table[at, ])
+}
+
+# Returns the fields of a table that the call wrote, a row for each of these households and for each of so many records without one; stops
+# where it is any other.
+panel_answer <- function(text, ids, unnamed) {
+  fields <- csv_rows(text)
+  whole <- length(fields) > 0 && all(lengths(fields) == length(panel_columns)) && identical(fields[[1]], panel_columns)
+  if (!whole) stop(no_answer(text))
+  table <- do.call(rbind, c(list(matrix("", 0, length(panel_columns))), fields[-1]))
+  colnames(table) <- panel_columns
+  empty <- rowSums(table[, 2:12, drop = FALSE] != "") == 0
+  fine <- grepl("^[0-9]+,[0-9]+,(holds|violated),[0-9]+(/[0-9]+)?,[0-9]+[.][0-9]{6},(yes|no),(holds|violated|withheld),(holds|violated)$", apply(table[, 2:9, drop = FALSE], 1, paste, collapse = ","))
+  is_row <- ifelse(table[, "fault"] != "", empty, fine)
+  is_told <- identical(unname(table[, 1]), c(ids, rep("", unnamed)))
+  last <- table[nrow(table) + 1 - seq_len(unnamed), "fault"]
+  if (!all(is_row) || !is_told || !all(last %in% c("NoId", "LongId"))) stop(no_answer(text))
+  table
+}
+
+# Returns the records of a text that was written as CSV.
+csv_rows <- function(text) {
+  if (!nzchar(text)) return(list())
+  if (!grepl("\"", text, fixed = TRUE, useBytes = TRUE)) {
+    lines <- strsplit(text, "\n", fixed = TRUE, useBytes = TRUE)[[1]]
+    return(lapply(strsplit(paste0(lines, ","), ",", fixed = TRUE, useBytes = TRUE), utf8))
+  }
+  at <- gregexpr("(\"([^\"]|\"\")*\"|[^,\n\"]*)[,\n]", text, perl = TRUE, useBytes = TRUE)
+  found <- regmatches(text, at)[[1]]
+  if (sum(nchar(found, "bytes")) != nchar(text, "bytes")) return(list())
+  field <- substring_bytes(found)
+  is_quoted <- startsWith(field, "\"")
+  field[is_quoted] <- gsub("\"\"", "\"", sub("\"$", "", sub("^\"", "", field[is_quoted], useBytes = TRUE), useBytes = TRUE), fixed = TRUE, useBytes = TRUE)
+  ends <- grepl("\n$", found, useBytes = TRUE)
+  unname(lapply(split(field, cumsum(c(0, utils::head(ends, -1)))), utf8))
+}
+
+# Returns texts without their last byte.
+substring_bytes <- function(texts) sub("[,\n]$", "", texts, useBytes = TRUE)
+
+utf8 <- function(texts) {
+  Encoding(texts) <- "UTF-8"
+  texts
+}
+
+# ---- faults
+
+# Returns the refusal of a household, told by the names of the frame; NULL where it has verdicts.
+panel_refusal <- function(long, texts, rows, data) {
+  fault <- texts[["fault"]]
+  if (!nzchar(fault)) return(NULL)
+  if (fault == "Pooled") return(tryCatch(row_labels(long$labels[rows], TRUE, id_advice(long$names[1])), rp_bad_data = identity))
+  place <- lapply(texts[c("record", "column")], function(it) if (nzchar(it)) as.integer(it))
+  column <- place$column
+  value <- if (!is.null(column) && !is.null(place$record)) long$columns[[column]][place$record]
+  name <- if (is.null(column)) NA else long$names[column]
+  hint <- panel_hint(fault)
+  if (is.na(hint)) hint <- hint_of(long, fault, column, value)
+  own <- match(name, names(data))
+  places <- list(record = place$record, column = if (!is.na(own)) own)
+  refused(fault, "table", places, label_of(long, place$record), name, shown(value), hint)
+}
+
+# Returns what the row of a fault is called: its number where it has no label, NA where the fault has no row.
+label_of <- function(long, record) {
+  if (is.null(record)) return(NA)
+  if (is.na(long$labels[record])) record else long$labels[record]
+}
+
+# Returns what to do about a fault of a panel, or NA.
+panel_hint <- function(fault) {
+  found <- list(
+    NoId = "a record without a household is none's: give it the name of its household, or leave it out",
+    LongId = paste("the name of a household has at most", limit_text("long.household_bytes"), "bytes"),
+    TooManyRecords = paste("a household has at most", limit_text("table.records"), "rows: name more columns that tell households apart")
+  )[[fault]]
+  if (is.null(found)) NA else found
+}

@@ -1,0 +1,57 @@
+# What a panel does with ids, faults and answers, by the program or the library of panels where one is found.
+library(revealed)
+source(system.file("testing", "opening.R", package = "revealed"))
+if (inherits(tryCatch(revealed:::panel_engine(), error = identity), "error")) {
+  cat("there is no rp-panel: its panels are not tried\n")
+  quit("no")
+}
+# Each two rows contradict each other; the first of them alone do not.
+frame <- function(ids) {
+  two <- rep(1:2, length.out = length(ids))
+  data.frame(household = ids, p_a = two, p_b = 3L - two, q_a = two, q_b = 3L - two, stringsAsFactors = FALSE)
+}
+panel <- function(ids, ...) rp_panel(frame(ids), "household", workers = 1, ...)
+
+# blanks round an id are cut, and rows without an id are refused, each for itself
+found <- as.data.frame(panel(c("A", "A ", "\tA", " A\t")))
+stopifnot(identical(found$household, "A"), found$observations == 4, identical(found$garp, FALSE))
+found <- as.data.frame(panel(c("A", "A", "", "", " \t", NA)))
+stopifnot(identical(found$garp, c(FALSE, rep(NA, 4))), identical(found$fault, c("", rep("NoId", 4))), identical(found$record, c(NA, 3:6)))
+found <- as.data.frame(rp_panel(data.frame(t = c("a,b", "a", "a", ""), y = c("c", "b,c", NA, "z"), p_a = 1, q_a = 1:4), c("t", "y"), workers = 1))
+stopifnot(identical(found$fault, c("", "", "NoId", "NoId")), identical(found$t, c("a,b", "a", "a", "")))
+
+# ends of lines, commas and quotes in an id
+ids <- c("x\ry", "x\ry", "a \"b\", c", "a \"b\", c", "e\nf", "e\r\nf", "=1+1", "\u00e9", strrep("x", 256), strrep("x", 257))
+found <- panel(ids)
+stopifnot(identical(unname(found$texts[, "household"]), enc2utf8(c(unique(ids)[1:7], ""))), identical(as.data.frame(found)$observations, c(2L, 2L, 1L, 1L, 1L, 1L, 1L, NA)))
+stopifnot(as.data.frame(found)$fault[8] == "LongId")
+
+# places of faults are those of the frame; many rows
+long <- cbind(note = "x", frame(rep(c("A", "B"), each = 2)))
+long$q_a <- c("1", "2", "1", "2,5")
+found <- as.data.frame(rp_panel(long, "household", workers = 1))
+stopifnot(identical(found$fault, c("", "BadNumber")), identical(found$record, c(NA, 4L)), identical(found$column, c(NA, 5L)))
+long <- data.frame(household = rep(c("A", "B"), c(513, 512)), p_a = 1, q_a = 1)
+found <- as.data.frame(rp_panel(long, "household", workers = 1))
+stopifnot(identical(found$fault, c("TooManyRecords", "")), identical(found$observations, c(NA, 512L)))
+many <- do.call(rbind, lapply(1:250, function(at) transform(frame(c("A", "A", "B")), household = paste(household, at))))
+some <- lapply(1:2, function(workers) rp_panel(many, "household", workers = workers)$texts)
+stopifnot(identical(some[[1]], some[[2]]), nrow(some[[1]]) == 500)
+
+# what is no table of these households is no answer
+if (.Platform$OS.type == "unix") {
+  fake <- function(lines) {
+    path <- file.path(tempdir(), "rp-panel")
+    writeLines(c("#!/bin/sh", "cat <<'END'", lines, "END"), path)
+    Sys.chmod(path)
+    path
+  }
+  head <- paste(revealed:::panel_columns, collapse = ",")
+  good <- c("A,1,2,holds,1,1.000000,yes,holds,holds,,,,,,", "B,,,,,,,,,,,,ZeroPrice,2,2")
+  stopifnot(identical(as.data.frame(panel(c("A", "B"), exe = fake(c(head, good))))$fault, c("", "ZeroPrice")))
+  for (lines in list(
+    character(), head, c(head, good[1]), c(head, rev(good)), c(head, good, good[2]), good, c(head, good[1], "B,,,,,,,,,,,,,,"),
+    c(head, good[1], "B,1,2,maybe,1,1.000000,yes,holds,holds,,,,,,")
+  )) caught(panel(c("A", "B"), exe = fake(lines)), "rp_failed")
+  caught(panel("A", exe = "/bin/true"), "rp_failed")
+}
