@@ -1,6 +1,6 @@
 //! The suite as a library that programs in C call: one function over files in memory for each edition of the program, one
-//! for panels, and one that tells which files the words name. They hand their arguments to the library crate of the same calls, and state
-//! those contracts again.
+//! for panels, and one that tells which files the words name. They hand their arguments to the library crates of the same
+//! calls, and state those contracts again.
 #![tactic(auto)]
 
 ghost use Rattle.std.specs.Prelude.{◌≡◌, pos};
