@@ -44,6 +44,20 @@ program define rptest, rclass sortpreserve
     if `power' > 0 {
         local results "`results' power"
     }
+    * With by() they are the columns that a table of households has everywhere.
+    if "`by'" != "" {
+        local numbers "observations goods garp efficiency_floor attained homothetic quasilinear pump_floor record column"
+        local texts "efficiency pump power fault"
+        local results "observations goods garp efficiency_floor attained homothetic quasilinear record column"
+        local told "efficiency fault"
+        if "`pump'" != "" {
+            local results "`results' pump_floor"
+            local told "`told' pump"
+        }
+        if `power' > 0 {
+            local told "`told' power"
+        }
+    }
     local bounds ""
     if "`money'" != "" {
         forvalues good = 1/`goods' {
@@ -69,7 +83,11 @@ program define rptest, rclass sortpreserve
     local script `"`r(fn)'"'
 
     * Groups in the order of their values, and within each the order of the data. The command leaves the data's order.
-    tempvar group order
+    * Blanks round an id are cut, and an observation without one is in no table.
+    tempvar group order named
+    quietly generate long `order' = _n
+    quietly generate byte `named' = `touse'
+    local unnamed = 0
     if "`by'" == "" {
         local panel : char _dta[_TSpanel]
         if "`panel'" != "" {
@@ -82,17 +100,33 @@ program define rptest, rclass sortpreserve
         quietly generate long `group' = 1 if `touse'
     }
     else {
-        quietly egen long `group' = group(`by') if `touse', missing
+        local keys ""
+        foreach variable of varlist `by' {
+            capture confirm string variable `variable'
+            if _rc == 0 {
+                tempvar key
+                quietly generate `key' = regexr(regexr(`variable', "^[ 	]+", ""), "[ 	]+$", "")
+                quietly replace `named' = 0 if `key' == ""
+                local keys "`keys' `key'"
+            }
+            else {
+                quietly replace `named' = 0 if missing(`variable')
+                local keys "`keys' `variable'"
+            }
+        }
+        quietly summarize `order' if `touse' & !`named'
+        local unnamed = r(N)
+        local nameless = r(min)
+        quietly egen long `group' = group(`keys') if `named'
     }
     quietly summarize `group'
     if r(N) == 0 {
         error 2000
     }
     local groups = r(max)
-    quietly generate long `order' = _n
     if "`obs'" != "" {
         sort `group' `obs'
-        quietly count if `touse' & `group' == `group'[_n-1] & `obs' == `obs'[_n-1]
+        quietly count if `named' & `group' == `group'[_n-1] & `obs' == `obs'[_n-1]
         if r(N) > 0 {
             display as error "two observations of one table have the same `obs': name the households by by()"
             exit 459
@@ -140,17 +174,23 @@ program define rptest, rclass sortpreserve
     local ofprices = cond("`digits'" == "", "6", "`ofprices'")
     local ofquantities = cond("`digits'" == "", "6", "`ofquantities'")
     quietly egen byte `refused' = max(`lacks'), by(`group')
+    * Of households the program tells it, with its place.
+    if "`by'" != "" {
+        quietly replace `refused' = 0
+    }
+    tempvar place
+    quietly generate long `place' = sum(`named' & !`refused')
 
     * The records of all tables, as texts behind the numbers of their groups.
     tempvar line
-    quietly generate strL `line' = trim(string(`group', "%12.0f")) if `touse'
+    quietly generate strL `line' = trim(string(`group', "%12.0f")) if `named'
     foreach kind in prices quantities {
         foreach variable of varlist ``kind'' {
-            quietly replace `line' = `line' + "," + trim(string(`variable' + 0, "%32.`of`kind''f")) if `touse'
+            quietly replace `line' = `line' + "," + trim(string(`variable' + 0, "%32.`of`kind''f")) if `named'
         }
     }
     if "`levels'" != "" {
-        quietly replace `line' = `line' + "," + trim(string(`levels' + 0, "%32.6f")) if `touse'
+        quietly replace `line' = `line' + "," + trim(string(`levels' + 0, "%32.6f")) if `named'
     }
 
     * A folder of files beside a temporary name, and one call of the script there.
@@ -184,6 +224,9 @@ program define rptest, rclass sortpreserve
     if `welfare' {
         file write `file' "welfare `goods'" _n
     }
+    if "`by'" != "" {
+        file write `file' "panel" _n
+    }
     if "`nowide'" != "" {
         file write `file' "nowide" _n
     }
@@ -214,7 +257,7 @@ program define rptest, rclass sortpreserve
     file open `file' using `"`macval(room)'/rows"', write text replace
     local row = 1
     while `row' <= _N {
-        if `touse'[`row'] & !`refused'[`row'] {
+        if `named'[`row'] & !`refused'[`row'] {
             local cells = `line'[`row']
             file write `file' "`cells'" _n
         }
@@ -251,7 +294,11 @@ program define rptest, rclass sortpreserve
                 local of "`of' `kind' `variable'"
             }
         }
-        postfile `posted' `of' double(`results') str80 efficiency str80 pump_ratio str2045 cycle str80 wide str200 message using `saving'
+        local kinds "str80 efficiency str80 pump_ratio str2045 cycle str80 wide str200 message"
+        if "`by'" != "" {
+            local kinds "str80 efficiency str80 pump str80 power str80 fault"
+        }
+        postfile `posted' `of' double(`results') `kinds' using `saving'
     }
     tempname verdicts
     local small = `groups' <= 800
@@ -298,6 +345,14 @@ program define rptest, rclass sortpreserve
                 exit 459
             }
         }
+        * A fault's record is told by the number of its observation in the data.
+        if "`by'" != "" & "`record'" != "." & `failed' == 0 {
+            local at = `first'
+            while `at' < `last' & `place'[`at'] < `record' {
+                local at = `at' + 1
+            }
+            local record = `order'[`at']
+        }
         if `welfare' & `failed' == 0 & !`refused'[`first'] {
             local at = `first'
             while `at' <= `last' {
@@ -312,10 +367,10 @@ program define rptest, rclass sortpreserve
         local held = `held' + ("`garp'" == "1")
         local without = `without' + ("`garp'" == ".")
         if `small' {
-            local column = 1
+            local slot = 1
             foreach name in `results' {
-                matrix `verdicts'[`number', `column'] = ``name''
-                local column = `column' + 1
+                matrix `verdicts'[`number', `slot'] = ``name''
+                local slot = `slot' + 1
             }
         }
         if "`generate'" != "" {
@@ -338,7 +393,12 @@ program define rptest, rclass sortpreserve
             foreach name in `results' {
                 local values "`values' (``name'')"
             }
-            post `posted' `key' `values' ("`efficiency'") ("`pump_ratio'") ("`cycle'") ("`wide'") ("`message'")
+            if "`by'" != "" {
+                post `posted' `key' `values' ("`efficiency'") ("`pump'") ("`power'") ("`fault'")
+            }
+            else {
+                post `posted' `key' `values' ("`efficiency'") ("`pump_ratio'") ("`cycle'") ("`wide'") ("`message'")
+            }
         }
         if "`by'" != "" & `small' {
             * A group is called by its values, one behind the other; the row of the matrix by what of them a name can have.
@@ -351,11 +411,9 @@ program define rptest, rclass sortpreserve
             local rowname = substr(strtoname(`"`macval(called)'"'), 1, 32)
             local rownames "`rownames' `rowname'"
             return local group`number' `"`macval(called)'"'
-            return local pump_ratio`number' "`pump_ratio'"
-            return local efficiency`number' "`efficiency'"
-            return local cycle`number' "`cycle'"
-            return local wide`number' "`wide'"
-            return local message`number' "`message'"
+            foreach name in `texts' {
+                return local `name'`number' "``name''"
+            }
         }
         local number = `number' + 1
     }
@@ -376,6 +434,9 @@ program define rptest, rclass sortpreserve
     }
     capture rmdir `"`macval(room)'"'
     display as text "`groups' tables: garp holds in `held', and `without' are without a verdict"
+    if `unnamed' > 0 {
+        display as text "`unnamed' observations have no household (`by'), the first of them observation `nameless': they are in no table"
+    }
     if `small' {
         matrix list `verdicts', noheader
     }
@@ -399,6 +460,7 @@ program define rptest, rclass sortpreserve
     return scalar groups = `groups'
     return scalar held = `held'
     return scalar without = `without'
+    return scalar unnamed = `unnamed'
     if `small' {
         return matrix verdicts = `verdicts'
     }

@@ -8,12 +8,15 @@
 #   header    the first line of each table
 #   program   one line, the path of the program; where it is empty, the variable RP_EXEC names it, else it is rp on the path
 #   asks      a line for each question beside the verdicts: `pump`, `power SEED DRAWS`, and `demand GOODS` or `welfare GOODS`;
+#             `panel` where the tables are those of households, which the program rp-panel answers all together;
 #             and `nowide` where what the program withholds is not asked of rp-wide: that of RP_WIDE, else the one beside the program
 #   new       new prices, and for demand what is spent, where these are asked
 # and gets `results`, of each group its number and fourteen lines: status, garp, afriat, homothetic, quasilinear and attained
 # (1, 0 or .), the efficiency index as the nearest double, but below 1 unless it is 1, the money pump ratio and the power as
 # doubles; as texts the index and the ratio as fractions, the cycle that violates GARP, what rp-wide gave and rp itself withholds, and a message; then for demand two
 # lines for each good, its bounds as doubles near them. For welfare it gets `bounds` too, a line with both for each record.
+# Of households the fourteen lines are observations, goods, garp, efficiency_floor, attained, homothetic, quasilinear, pump_floor,
+# record and column; as texts efficiency, pump, power and fault. What is no table of just these households gives no results.
 # A number that is not there is a point. No text of these files, of the variable or of what the program says is read by a shell as more than a text.
 here=$PWD
 cd -- "$1" || exit 1
@@ -27,11 +30,12 @@ case $rp in
   */*) rp=$here/$rp ;;
 esac
 export rp
-pump="" power="" new="" goods=0 wide=yes
+pump="" power="" new="" goods=0 wide=yes panel=""
 while read -r word first second; do
   case $word,$first,$second in
     pump,,) pump=yes ;;
-    nowide,,) wide="" ;;
+    panel,,) panel=yes ;;
+    nowide,,) wide="" asked_wide=no ;;
     power,*[!0-9]*,* | power,*,*[!0-9]* | demand,*[!0-9]*, | welfare,*[!0-9]*,) exit 1 ;;
     power,?*,?*) power="$first $second" ;;
     demand,?*, | welfare,?*,) new=$word goods=$first ;;
@@ -52,9 +56,31 @@ if [ -n "$wide" ]; then
 else
   more="rp-wide may give it"
 fi
-export pump power new wide
+export pump power new wide panel
+# Households: one long file, whose ids are the numbers of the groups, and one call.
+if [ -n "$panel" ]; then
+  program=${RP_PANEL:-}
+  found=$(command -v -- "$rp" || :)
+  for it in "$found" "$(readlink -f -- "$found" 2>/dev/null)"; do
+    case $program,$it in ,*/*) [ ! -x "${it%/*}/rp-panel" ] || program=${it%/*}/rp-panel ;; esac
+    case $program,$it in ,*/rp/out/*)
+      [ ! -x "${it%/rp/out/*}/rp_panel_program/out/rp_panel_program" ] || program=${it%/rp/out/*}/rp_panel_program/out/rp_panel_program ;;
+    esac
+  done
+  case $program in "") program="rp-panel" ;; /*) ;; */*) program=$here/$program ;; esac
+  trap 'cd "$here"; rm -f "$room/long.csv" "$room/verdicts" "$room/told"' EXIT
+  { printf 'household,'; cat header rows; } >long.csv
+  set -- long.csv
+  [ -z "$pump" ] || set -- "$@" --pump
+  [ -z "$power" ] || set -- "$@" --power "${power#* }" "${power% *}"
+  [ "${asked_wide:-}" = no ] || set -- "$@" --wide
+  if ! "$program" "$@" >verdicts 2>told </dev/null; then
+    cat told >&2
+    exit 1
+  fi
+fi
 mkdir tables || exit 1
-trap 'cd "$here"; rm -rf "$room/tables"' EXIT
+trap 'cd "$here"; rm -rf "$room/tables" "$room/long.csv" "$room/verdicts" "$room/told"' EXIT
 awk -F, '
   NR == FNR { header = $0; next }
   $1 != group { if (file != "") close(file); group = $1; file = "tables/" group ".csv"; print header > file }
@@ -65,6 +91,7 @@ cd tables || exit 1
 # shellcheck disable=SC2012,SC2016
 ls | sed 's/[.]csv$//' | sort -n | xargs -P "$(nproc 2>/dev/null || echo 2)" -n 25 sh -c '
   for n do
+    [ -n "$panel" ] || {
     "$rp" analyse "$n.csv" >"$n.out" 2>"$n.err" </dev/null
     echo $? >"$n.status"
     if [ -n "$wide" ] && grep -q "^homothetic withheld " "$n.out"; then
@@ -75,6 +102,7 @@ ls | sed 's/[.]csv$//' | sort -n | xargs -P "$(nproc 2>/dev/null || echo 2)" -n 
     [ -z "$pump" ] || "$rp" pump "$n.csv" >"$n.pump" 2>"$n.why" </dev/null || echo "pump $(cat "$n.why")" >>"$n.less"
     # shellcheck disable=SC2086
     [ -z "$power" ] || "$rp" power "$n.csv" $power >"$n.power" 2>"$n.why" </dev/null || echo "power $(cat "$n.why")" >>"$n.less"
+    }
     [ -z "$new" ] || "$rp" "$new" "$n.csv" ../new >"$n.new" 2>"$n.why" </dev/null || echo "$new $(cat "$n.why")" >>"$n.less"
     if [ -n "$new" ] && [ -n "$wide" ] && grep -q " withheld " "$n.new"; then
       mv "$n.new" "$n.held"
@@ -87,7 +115,69 @@ places=0
   for (at = 1; at <= goods; at++) { part = $at; if (!sub(/^[^.]*[.]/, "", part)) part = ""; sub(/0+$/, "", part); if (length(part) > most) most = length(part) }
 } END { print most + 0 }' ../new)
 # shellcheck disable=SC2012
-ls | sed -n 's/[.]csv$//p' | sort -n | awk -v pump="$pump" -v power="$power" -v new="$new" -v goods="$goods" -v places="$places" -v more="$more" '
+ls | sed -n 's/[.]csv$//p' | sort -n >../groups
+if [ -n "$panel" ]; then
+  if ! awk -v new="$new" -v goods="$goods" -v places="$places" '
+  function near(fraction, over,   part) {
+    if (fraction !~ /^-?[0-9]+(\/[0-9]+)?$/) return "."
+    split(fraction, part, "/")
+    return sprintf("%.17g", part[1] / (part[2] == "" ? 1 : part[2]) / over)
+  }
+  function ends(line, over,   word, count, at) {
+    least = most = "."
+    count = split(line, word, " ")
+    for (at = 1; at < count; at++) {
+      if (word[at] == "lower") least = near(word[at + 1], over)
+      if (word[at] == "upper") most = near(word[at + 1], over)
+    }
+  }
+  function given(text) { return text == "" ? "." : text }
+  function truth(word) { return word == "holds" || word == "yes" ? 1 : word == "violated" || word == "no" ? 0 : "." }
+  # What the program told has to be a row for each group, in their order: its verdicts, or its fault.
+  function is_row(   at, share) {
+    share = "^[0-9]+(/[0-9]+)?$"
+    if ($13 != "") {
+      for (at = 2; at <= 12; at++) if ($at != "") return 0
+      return $13 ~ /^[A-Z][A-Za-z]*$/ && $14 $15 ~ /^[0-9]*$/
+    }
+    return $2 ~ /^[0-9]+$/ && $3 ~ /^[0-9]+$/ && $4 ~ /^(holds|violated)$/ && $5 ~ share && $6 ~ /^[0-9]+[.][0-9]+$/ && $7 ~ /^(yes|no)$/ && $8 ~ /^(holds|violated|withheld)$/ && $9 ~ /^(holds|violated)$/
+  }
+  BEGIN {
+    FS = ","
+    heads = "household,observations,goods,garp,efficiency,efficiency_floor,attained,homothetic,quasilinear,pump,pump_floor,power,fault,record,column"
+    if ((getline < "../verdicts") < 1 || $0 != heads) exit failed = 1
+  }
+  FILENAME == "../rows" { count_of[$1]++; next }
+  {
+    group = $0
+    if ((getline < "../verdicts") < 1 || NF != 15 || $1 != group || !is_row()) exit failed = 1
+    fault = $13; split("", low); split("", high)
+    print group; print given($2); print given($3); print truth($4); print given($6); print truth($7); print truth($8); print truth($9)
+    print given($11); print given($14); print given($15); print $5; print $10; print $12; print fault
+    while (fault == "" && new != "" && (getline line < (group ".new")) > 0) {
+      split(line, word, " ")
+      if (word[1] == "observations") tens = word[7]
+      if (new == "demand" && word[1] == "good") { ends(line, 10 ^ tens); low[word[2]] = least; high[word[2]] = most }
+      if (new == "welfare" && word[1] == "welfare" && match(line, / observation [0-9]+ /)) {
+        split(substr(line, RSTART + 1), word, " ")
+        ends(line, 10 ^ (tens + places)); low[word[2]] = least; high[word[2]] = most
+      }
+    }
+    close(group ".new")
+    for (good = 1; new == "demand" && good <= goods; good++) { print given(low[good]); print given(high[good]) }
+    for (at = 1; new == "welfare" && at <= count_of[group]; at++) print given(low[at]) " " given(high[at]) > "../bounds"
+  }
+  END { if (failed || (getline < "../verdicts") > 0) exit 1 }
+  ' ../rows ../groups >../answers; then
+    echo "rptest.sh: $program gave no table of these households" >&2
+    rm -f ../answers ../groups ../bounds
+    exit 1
+  fi
+  rm -f ../groups
+  mv ../answers ../results
+  exit 0
+fi
+awk -v pump="$pump" -v power="$power" -v new="$new" -v goods="$goods" -v places="$places" -v more="$more" '
   function value(word) { return word == "holds" || word == "model" ? 1 : word == "violated" || word == "none" ? 0 : "." }
   # The double nearest to a fraction of whole numbers below 2^53, where `over` is 1, and else one near it; but only 1 reads 1.
   function near(fraction, over,   part, found) {
@@ -114,7 +204,7 @@ ls | sed -n 's/[.]csv$//p' | sort -n | awk -v pump="$pump" -v power="$power" -v 
     }
   }
   # How many records each group has.
-  FILENAME != "-" { split($0, cell, ","); count_of[cell[1]]++; next }
+  FILENAME == "../rows" { split($0, cell, ","); count_of[cell[1]]++; next }
   {
     group = $0; status = "."; message = ""; last = ""; efficiency = ""; cycle = ""; wide = ""; ccei = "."; ratio = ""; share = "."
     split("", is); is["garp"] = is["afriat"] = is["homothetic"] = is["quasilinear"] = is["attained"] = "."
@@ -170,4 +260,5 @@ ls | sed -n 's/[.]csv$//p' | sort -n | awk -v pump="$pump" -v power="$power" -v 
     for (good = 1; new == "demand" && good <= goods; good++) { print given(low[good]); print given(high[good]) }
     for (at = 1; new == "welfare" && at <= count_of[group]; at++) print given(low[at]) " " given(high[at]) > "../bounds"
   }
-' ../rows - >../results
+' ../rows ../groups >../results
+rm -f ../groups

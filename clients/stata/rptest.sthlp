@@ -18,8 +18,10 @@ of the program rp; nothing of this command is proved, and it was not run in Stat
 
 {title:Options}
 
-{phang}{opt by(varlist)} tests each group by itself, on all processors. A group whose data are refused has its status, and
-the others go on. A missing value refuses its own group (status 416). Data that are {cmd:xtset} as a panel need it.
+{phang}{opt by(varlist)} tests each group by itself, all of them by one call of the program rp-panel: the one that the environment
+variable RP_PANEL names, else the one that stands beside rp. Blanks round a name are cut; an observation without one is in no
+table, and {cmd:r(unnamed)} counts these. A group whose data are no table has its fault, with the number of the observation and of the column (1 is
+the group, then prices and quantities in their order), and the others go on. Data that are {cmd:xtset} as a panel need it.
 
 {phang}{opt levels(varname)} has the level of each observation in whole thousandths from 1 to 1000: how much of what was spent
 there counts (Varian 1990). The verdicts on the axiom and on Afriat's numbers are then by these levels.
@@ -58,13 +60,13 @@ variable RP_WIDE names, else the one that stands beside the program.
 {cmd:r(ccei)}, the double nearest to the index, but below 1 unless it is 1, where asked {cmd:r(pump)}, {cmd:r(power)} and for each good
 {cmd:r(low}{it:#}{cmd:)} and {cmd:r(high}{it:#}{cmd:)}, and the macros {cmd:r(efficiency)}, the exact
 fraction, {cmd:r(pump_ratio)}, that of the money pump, {cmd:r(cycle)}, the numbers of observations within the table of a cycle that violates
-the axiom, {cmd:r(wide)}, what rp-wide gave and rp itself withholds (homothetic, demand, welfare), and {cmd:r(message)}. With {opt by()}: {cmd:r(group}{it:#}{cmd:)}, {cmd:r(efficiency}{it:#}{cmd:)}, {cmd:r(pump_ratio}{it:#}{cmd:)},
-{cmd:r(cycle}{it:#}{cmd:)}, {cmd:r(wide}{it:#}{cmd:)} and {cmd:r(message}{it:#}{cmd:)}, and always {cmd:r(groups)}, {cmd:r(held)}, how many meet the axiom,
-{cmd:r(without)}, how many have no verdict, and the matrix {cmd:r(verdicts)}, a row for each group, called by its values: status, garp, afriat,
-homothetic, quasilinear, attained and ccei, and what was asked beside them. Past 800 groups there is no matrix and no macro of a group: say {opt generate()} or
+the axiom, {cmd:r(wide)}, what rp-wide gave and rp itself withholds (homothetic, demand, welfare), and {cmd:r(message)}. With {opt by()} there are the columns that tables of households have everywhere: {cmd:r(group}{it:#}{cmd:)}, {cmd:r(efficiency}{it:#}{cmd:)},
+{cmd:r(pump}{it:#}{cmd:)} and {cmd:r(power}{it:#}{cmd:)} (fractions in text) and {cmd:r(fault}{it:#}{cmd:)}, and always {cmd:r(groups)}, {cmd:r(held)}, how many meet the axiom,
+{cmd:r(without)}, how many have no verdict, {cmd:r(unnamed)}, and the matrix {cmd:r(verdicts)}, a row for each group, called by its values: with {opt by()} observations, goods, garp,
+efficiency_floor (the index, rounded down to six places), attained, homothetic, quasilinear, record and column, else status, garp, afriat, homothetic, quasilinear, attained and ccei, and what was asked beside them (with {opt by()} pump_floor). Past 800 groups there is no matrix and no macro of a group: say {opt generate()} or
 {opt saving()}.
 
 {title:Example}
 
 {phang2}{cmd:. rptest, prices(p_bread p_wine) quantities(q_bread q_wine) by(household) digits(2) generate(v)}{p_end}
-{phang2}{cmd:. summarize v_garp v_ccei}{p_end}
+{phang2}{cmd:. summarize v_garp v_efficiency_floor}{p_end}

@@ -6,6 +6,7 @@ usage: RP_EXEC=PROGRAM check-traffic.py
 The text of rptest.ado is run line by line over the examples: it writes its files and calls rptest.sh, the script runs the
 program, and what comes back is compared with the worked answers. That Stata takes the text in the same way is not shown.
 """
+import contextlib
 import csv
 import math
 import os
@@ -69,7 +70,7 @@ class Stata:
         self.system, self.rownames = "Unix", {}
         self.results, self.r, self.code, self.files = {}, {}, 0, {}
         self.matrices, self.posts, self.said, self.temporary, self.steps = {}, {}, [], 0, 0
-        self.kept = []
+        self.kept, self.summed = [], 0
 
     # ---- macros and expressions
 
@@ -149,6 +150,8 @@ class Stata:
             "F_max": lambda *it: max([x for x in it if x != MISSING], default=MISSING),
             "F_min": min,
             "F_string": self.string,
+            "F_regexr": lambda it, form, other: re.sub(form, other, it, count=1),
+            "F_sum": self.running,
         }
         found = eval("".join(out).strip(), {"__builtins__": {}}, names)
         return int(found) if isinstance(found, bool) else found
@@ -156,6 +159,11 @@ class Stata:
     @staticmethod
     def string(number, form):
         return "." if number == MISSING else form % number
+
+    def running(self, number):
+        """Returns the sum of what came in this command so far."""
+        self.summed += number
+        return self.summed
 
     def cell(self, name, row):
         if name in self.matrices:
@@ -280,12 +288,13 @@ class Stata:
         self.put(name, value, rows)
 
     def put(self, name, value, rows):
+        self.summed = 0
         found = [self.value(value, row) for row in rows]
         for row, it in zip(rows, found):
             self.data[name][row - 1] = it
 
     def do_egen(self, text):
-        grouped = re.fullmatch(r"long (\w+) = group\(([\w ]+)\) if (\w+), missing", text)
+        grouped = re.fullmatch(r"long (\w+) = group\(([\w ]+)\) if (\w+)", text)
         if grouped:
             name, own, touse = grouped.groups()
             keys = list(zip(*(self.data[it] for it in own.split())))
@@ -335,7 +344,7 @@ class Stata:
             raise Stopped(601)
 
     def do_shell(self, text):
-        subprocess.run(["/bin/sh", "-c", self.whole(text)], check=True, stdin=subprocess.DEVNULL)
+        subprocess.run(["/bin/sh", "-c", self.whole(text)], stdin=subprocess.DEVNULL, stderr=subprocess.DEVNULL)
 
     def do_file(self, text):
         verb, _, rest = text.partition(" ")
@@ -481,27 +490,82 @@ def check_refusals():
     assert call(panel, **BOTH, digits="2", obs="year", by="household")[1] == 0
 
 
+NAMES = "observations goods garp efficiency_floor attained homothetic quasilinear record column".split()
+
+
+def rows_of(found):
+    """Returns the rows of a panel by the names of the groups, each by its columns."""
+    numbers = {found[f"group{at}"]: dict(zip(NAMES, row)) for at, row in enumerate(found["verdicts"], 1)}
+    texts = {found[f"group{at}"]: {it: found[f"{it}{at}"] for it in ("efficiency", "pump", "power", "fault")} for at in range(1, len(numbers) + 1)}
+    return {name: {**row, **texts[name]} for name, row in numbers.items()}
+
+
 def check_panel():
     panel = example("panel/panel.csv", text=("household",))
     found, code, _, stata = call(panel, **BOTH, by="household", digits="2", generate="v", saving="kept.dta")
-    rows = {found[f"group{at}"]: found["verdicts"][at - 1] for at in range(1, found["groups"] + 1)}
-    none = MISSING
-    wanted = {"north": (0, 1, 1, 1), "south": (0, 0, 0, 0), "east, upper": (0, 1, 1, 1), "west": (4, none, none, none), "harbour": (0, 1, 0, 0)}
-    assert {name: (row[0], row[1], row[3], row[4]) for name, row in rows.items()} == wanted, rows
-    west = next(at for at in range(1, 6) if found[f"group{at}"] == "west")
-    assert "ZeroPrice record 2" in found[f"message{west}"], found
-    harbour = next(at for at in range(1, 6) if found[f"group{at}"] == "harbour")
-    assert found[f"cycle{harbour}"] == "", found
-    assert {(name, garp) for name, garp in zip(stata.data["household"], stata.data["v_garp"])} == {(name, row[1]) for name, row in wanted.items()}
+    rows, none = rows_of(found), MISSING
+    wanted = {"north": (1, 1, 1), "south": (0, 0, 0), "east, upper": (1, 1, 1), "west": (none, none, none), "harbour": (1, 0, 0)}
+    assert {name: (row["garp"], row["homothetic"], row["quasilinear"]) for name, row in rows.items()} == wanted, rows
+    assert (rows["west"]["fault"], rows["west"]["record"], rows["west"]["column"]) == ("ZeroPrice", 9, 3), rows["west"]
+    assert (rows["south"]["efficiency"], rows["south"]["efficiency_floor"], rows["south"]["observations"]) == ("4/5", 0.8, 2), rows["south"]
+    assert {(name, garp) for name, garp in zip(stata.data["household"], stata.data["v_garp"])} == {(name, row[0]) for name, row in wanted.items()}
     kept = {row["household"]: row for row in found["kept.dta"]}
     assert found["names of rows"] == [found[f"group{at}"].replace(",", "_").replace(" ", "_") for at in range(1, 6)], found["names of rows"]
-    assert kept["south"]["efficiency"] == "4/5" and kept["south"]["ccei"] == 0.8 and kept["west"]["status"] == 4, kept
-    # A missing value refuses its own group alone.
+    assert kept["south"]["efficiency"] == "4/5" and kept["south"]["efficiency_floor"] == 0.8 and kept["west"]["fault"] == "ZeroPrice", kept
+    # A missing value refuses its own group alone, at its place.
     panel["q_wine"][0] = None
     found, code, _, _ = call(panel, **BOTH, by="household", digits="2")
-    assert code == 0 and sorted(row[0] for row in found["verdicts"]) == [0, 0, 0, 4, 416], found
-    names = [found[f"group{at}"] for at in range(1, 6)]
-    assert names[[row[0] for row in found["verdicts"]].index(416)] == panel["household"][0], found
+    rows = rows_of(found)
+    assert code == 0 and sorted(row["fault"] for row in rows.values()) == ["", "", "", "BadNumber", "ZeroPrice"], rows
+    own = rows[panel["household"][0]]
+    assert (own["fault"], own["record"], own["column"]) == ("BadNumber", 1, 5), own
+
+
+def check_ids():
+    """Blanks round an id are cut; an observation without one is in no table, whatever tells households apart."""
+    own = {"p_a": [1.0, 2.0] * 4, "p_b": [2.0, 1.0] * 4, "q_a": [1.0, 2.0] * 4, "q_b": [2.0, 1.0] * 4}
+    names = {"prices": "p_a p_b", "quantities": "q_a q_b"}
+    data = {**own, "home": ["A", "A ", "\tA", "B", "", "", " \t", "x\ry"]}
+    found, code, said, stata = call(data, **names, by="home", generate="v")
+    rows = rows_of(found)
+    assert code == 0 and {name.strip(): (row["observations"], row["garp"]) for name, row in rows.items()} == {"A": (3, 0), "B": (1, 1), "x\ry": (1, 1)}, rows
+    assert found["unnamed"] == 3 and "3 observations have no household (home), the first of them observation 5" in said, said
+    nameless = [garp for name, garp in zip(stata.data["home"], stata.data["v_garp"]) if not name.strip()]
+    assert nameless == [MISSING] * 3, stata.data
+    data = {**own, "town": ["x"] * 4 + ["y"] * 4, "home": [1.0, 1.0, None, None, 1.0, 1.0, 2.0, None]}
+    found, code, _, _ = call(data, **names, by="town home")
+    assert code == 0 and (found["groups"], found["unnamed"]) == (3, 3) and sorted(row["garp"] for row in rows_of(found).values()) == [0, 0, 1], found
+    # What is no table of verdicts is no answer, whatever the status.
+    with tempfile.TemporaryDirectory() as room:
+        head = ",".join(["household", *NAMES[:3], "efficiency,efficiency_floor,attained,homothetic,quasilinear,pump,pump_floor,power,fault,record,column"])
+        good = "1,2,2,violated,4/5,0.800000,yes,violated,violated,,,,,,"
+        for lines in (
+            [],
+            ["hello"],
+            [head],
+            [good],
+            [head, good, good],
+            [head, good.replace("violated", "maybe", 1)],
+            [head, "1,,,,,,,,,,,,,,"],
+            [head, good[1:]],
+        ):
+            with open(f"{room}/rp-panel", "w", encoding="utf-8") as it:
+                it.write("#!/bin/sh\ncat <<'END'\n" + "".join(f"{line}\n" for line in lines) + "END\n")
+            os.chmod(f"{room}/rp-panel", 0o755)
+            os.symlink(os.environ["RP_EXEC"], f"{room}/rp") if not os.path.exists(f"{room}/rp") else None
+            with without("RP_PANEL"):
+                _, code, said, _ = call({name: column[:2] for name, column in {**own, "home": [1.0] * 8}.items()}, **names, by="home", exe=f"{room}/rp")
+            assert code == 601 and "gave no results" in said, (lines, code, said)
+
+
+@contextlib.contextmanager
+def without(variable):
+    kept = os.environ.pop(variable, None)
+    try:
+        yield
+    finally:
+        if kept is not None:
+            os.environ[variable] = kept
 
 
 def check_more():
@@ -535,7 +599,7 @@ def check_more():
     assert code == 0 and found["groups"] == 6 and found["held"] == 4, found
     assert [found[f"group{at}"] for at in range(1, 7)] == ["x 0", "x 1", "x 2", "y, z 0", "y, z 1", "y, z 2"], found
     assert found["names of rows"] == ["x_0", "x_1", "x_2", "y__z_0", "y__z_1", "y__z_2"], found
-    assert {(row["town"], row["id"], row["garp"], row["pump_ratio"]) for row in found["kept.dta"]} == {
+    assert {(row["town"], row["id"], row["garp"], row["pump"]) for row in found["kept.dta"]} == {
         (town, own, float(own != 0), "1/5" if own == 0 else "0") for town in ("x", "y, z") for own in (0.0, 1.0, 2.0)
     }
     # On Windows a clear word comes first.
@@ -667,9 +731,6 @@ def check_wide():
         found, _, _, stata = call(data, **BOTH, exe=exe, nowide="nowide", newprices="1 1", generate="v")
         assert (found["wide"], found["homothetic"], stata.data["v_lower"][1]) == ("", MISSING, MISSING), found
         assert found["message"] == f"homothetic {held}; rp-wide may give it", found
-        panel = {**households(2), "id": [0.0, 0.0, 1.0, 1.0]}
-        found, _, _, _ = call(panel, prices="p_a p_b", quantities="q_a q_b", by="id", exe=exe)
-        assert (found["wide1"], found["wide2"]) == ("homothetic", "homothetic"), found
         # By a link to the program, and where nothing is withheld it is not asked.
         os.makedirs(f"{room}/linked")
         os.symlink(exe, f"{room}/linked/rp")
@@ -721,7 +782,7 @@ def main():
     os.environ["RP_EXEC"] = os.path.abspath(os.environ["RP_EXEC"])
     with tempfile.TemporaryDirectory() as room:
         os.chdir(room)
-        for check in (check_verdicts, check_refusals, check_panel, check_more, check_files, check_many, check_wide, check_texts):
+        for check in (check_verdicts, check_refusals, check_panel, check_ids, check_more, check_files, check_many, check_wide, check_texts):
             check()
         os.chdir(old)
     print("clients/stata: the traffic is as it should be; it was not run in Stata")
