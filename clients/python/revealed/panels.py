@@ -365,6 +365,7 @@ class LongFrame(Sheet):
         # What fits is told by all households, which are rounded alike.
         self.whole = Kinds(self._taken, self.goods)
         self.own = list(zip(*columns)) if frame.length else []
+        self.are_plain = self.are_as_they_are and all(exact.are_plain(column) for column in columns if column)
         self.households, self.unnamed = self._told_apart()
 
     def _levels(self, levels: Any) -> tuple[Any, list[str]]:
@@ -384,17 +385,30 @@ class LongFrame(Sheet):
         """Returns the households, and the records of none, each for itself."""
         found: dict[str, _Household] = {}
         unnamed = []
+        # The places of a household by its keys as they stand, so that each of them is looked at once.
+        known: dict[Any, list[int]] = {}
         columns = [self.frame.columns[name] for name in self.by]
         for at, keys in enumerate(zip(*columns)):
+            as_it_is = keys, tuple(map(type, keys))
+            try:
+                known[as_it_is].append(at)
+                continue
+            except (KeyError, TypeError):
+                pass
             own = id_of(keys)
             key = keys if len(self.by) > 1 else keys[0]
             if not is_id(own):
                 unnamed.append(_Household(self, own, key, [at]))
-            elif own in found:
+                continue
+            if own in found:
                 found[own].places.append(at)
                 refuse_other_kinds(found[own].key, key)
             else:
                 found[own] = _Household(self, own, key, [at])
+            try:
+                known[as_it_is] = found[own].places
+            except TypeError:
+                pass
         return list(found.values()), unnamed
 
     def table(self, places: Sequence[int]) -> Table:
@@ -404,16 +418,13 @@ class LongFrame(Sheet):
         levels = None if self.levels is None else [self.levels[at] for at in places]
         return Table(self.goods, prices, quantities, labels, self.own_forms, levels, self.own_money, self.whole)
 
-    def text(self, own: _Household) -> list[list[str]]:
-        """Returns the records of a household. What has no text of its own has one that is refused for the same fault."""
-        records = []
-        for at in own.places[:DECIDING]:
-            row = list(self.own[at])
-            if self.are_as_they_are and exact.are_plain(row):
-                records.append([own.id, *map(str, row)])
-            else:
-                records.append([own.id, *(self.number(value, form) for value, form in zip(row, self.forms[1:]))])
-        return records
+    def lines(self, own: _Household) -> list[str]:
+        """Returns the records of a household, as lines. What has no text of its own has one that is refused for the same fault."""
+        places, name = own.places[:DECIDING], program.field(own.id)
+        if self.are_plain:
+            return [f"{name},{','.join(map(str, self.own[at]))}\n" for at in places]
+        rows = ([self.number(value, form) for value, form in zip(self.own[at], self.forms[1:])] for at in places)
+        return [f"{name},{program.joined(row)}\n" for row in rows]
 
     def number(self, value: Any, form: exact.Form) -> str:
         try:
@@ -455,16 +466,20 @@ class LongFrame(Sheet):
 
     def pooled(self, own: _Household) -> Iterator[Pooled]:
         """Yields why the rows of a household look like those of several."""
+        labels = [self.labels[at] for at in own.places]
         try:
-            own_labels([self.labels[at] for at in own.places], self.frame.label_name)
+            if len(set(labels)) < len(labels):
+                own_labels(labels, self.frame.label_name)
+        except TypeError:
+            pass
         except Pooled as wrong:
             yield wrong
 
     def called(self, sent: Sequence[_Household], run: program.Runs, path: str) -> list[Row]:
         """Returns the rows that the call gives of some households, or of records of none."""
-        records = [record for own in sent for record in self.text(own)]
         places = [at for own in sent for at in own.places[:DECIDING]]
-        data = program.csv_bytes([self.names, *records])
+        lines = "".join(line for own in sent for line in self.lines(own))
+        data = program.csv_bytes([self.names]) + program.bytes_of(lines)
         ran = program.ran_of(*run(path, self.asked.words(), {LONG: data}))
         out = program.output(ran, lambda _, fault, at: self.refused(fault, at))
         named = [own.id for own in sent if is_id(own.id)]

@@ -140,9 +140,13 @@ def joined(row: Sequence[str]) -> str:
 
 def csv_bytes(rows: Iterable[Sequence[str]]) -> bytes:
     """Returns rows of texts as the bytes of a CSV file. A row of one empty text is quoted, since blank lines count for nothing."""
-    lines = [joined(row) for row in rows]
+    return bytes_of("".join(f"{joined(row)}\n" for row in rows))
+
+
+def bytes_of(text: str) -> bytes:
+    """Returns the bytes of a text; raises BadData where it is none."""
     try:
-        return "".join(f"{line}\n" for line in lines).encode("utf-8", "surrogateescape")
+        return text.encode("utf-8", "surrogateescape")
     except UnicodeEncodeError as wrong:
         raise BadData(f"a name or a value is no text: {wrong}") from None
 
