@@ -82,10 +82,11 @@ int32_t rp_answer_wide(
     uint64_t *output_length, uint64_t *told_length);
 
 /*
- * Answers the words of `rp-panel`: a row of verdicts for each household of a long file.
+ * Answers the words of `rp-panel`: a row of verdicts for each household of a long file, or its bounds at new prices.
  *
- * The words are LONG [--id NAME] [--keep NAME].. [--pump] [--power DRAWS SEED] [--wide], as docs/FORMATS.md tells, and
- * the one file is LONG, under that name. The output is the table as comma-separated values. With RP_DONE there may be
+ * The words are LONG [--id NAME] [--keep NAME].. [--pump] [--power DRAWS SEED] [--wide], or with bounds
+ * LONG [--id NAME] [--keep NAME].. (--demand | --welfare) NEW, as docs/FORMATS.md tells, and the files are LONG and NEW,
+ * where it is named, under these names. The output is the table as comma-separated values. With RP_DONE there may be
  * told lines too, one for each column of the long file that is left out. Arguments, ownership, threads and statuses are
  * those of `rp_answer`; RP_REJECTED never comes.
  */

@@ -23,11 +23,11 @@ _rp() {
 }
 complete -F _rp rp ./rp rp-wide ./rp-wide
 _rp_panel() {
-  local word=${COMP_WORDS[COMP_CWORD]}
+  local word=${COMP_WORDS[COMP_CWORD]} before=${COMP_WORDS[COMP_CWORD - 1]}
   COMPREPLY=()
   if [[ $word == -* ]]; then
-    mapfile -t COMPREPLY < <(compgen -W "--id --keep --pump --power --wide" -- "$word")
-  elif [ "$COMP_CWORD" -eq 1 ]; then
+    mapfile -t COMPREPLY < <(compgen -W "--id --keep --pump --power --wide --demand --welfare" -- "$word")
+  elif [ "$COMP_CWORD" -eq 1 ] || [ "$before" = --demand ] || [ "$before" = --welfare ]; then
     compopt -o filenames 2>/dev/null
     mapfile -t COMPREPLY < <(compgen -f -- "$word")
   fi

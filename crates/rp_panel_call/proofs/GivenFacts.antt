@@ -1,5 +1,5 @@
 -- What a run over files in memory says of the files that are given, and how the functions between end.
-use Rattle.std.proofs.Common.{◌≡◌, ◌∙◌, ◌<◌, ◌≤◌, ℕ, [], List, Option, Some, None, Result, Ok, Err, IfOk, length, refl, sym, subst, ap, unwrap_or, map, option_map, string_bytes, inr}
+use Rattle.std.proofs.Common.{◌≡◌, ◌∙◌, ◌<◌, ◌≤◌, ℕ, [], List, Option, Some, None, Result, Ok, Err, IfOk, length, refl, sym, subst, ap, unwrap_or, map, option_map, string_bytes, inl, inr}
 use Rattle.std.specs.Option.{ForSome}
 use Rattle.std.specs.Prelude.{slice_index_or}
 use Rattle.std.specs.Borrow.{Bor}
@@ -9,7 +9,10 @@ use Rattle.rp_frame.specs.Frames.{Frame, Request, request_in}
 use Rattle.rp_frame.specs.Given.{AreGiven, IsFirstMissing}
 use Rattle.rp_frame.specs.Handed.{Holds, IsText}
 use Rattle.rp_frame.specs.declared.handed.Handed.{Handed}
-use Rattle.rp_panel_run.specs.Endings.{IsRefused, IsTextOf}
+use Rattle.rp_bound_rows.specs.declared.asked.BoundsAsked.{BoundsAsked}
+use Rattle.rp_limits.specs.declared.run.TheConstants.{MOST_BYTES}
+use Rattle.rp_long.specs.Panels.{Panel}
+use Rattle.rp_panel_run.specs.Endings.{AreBoundsAt, IsPanelFile, IsRefused, IsRefusedKnown, IsTextBy, IsTextOf, IsTextOfKnown}
 use Rattle.rp_panel_run.specs.Questions.{Asking, asking_in, files_of}
 use Rattle.rp_panel_run.specs.Told.{unread_line}
 use Rattle.rp_panel_run.specs.declared.status.Status.{Status}
@@ -36,13 +39,32 @@ IsWhole files a = (length files ≤ length (files_of a)) × AreGiven files (file
 abbrev pub AreNamesIn : List (List ℕ) → List (List ℕ) → Type 0
 AreNamesIn words names = Some names ≡ option_map files_of (asking_in words)
 
-given_text : (a : Asking) (text told : List ℕ) (o : Option (List ℕ)) → ForSome (Some (unwrap_or o [])) (λ bytes. IsTextOf a bytes text told)
-    → ForSome o (λ bytes. IsTextOf a bytes text told)
-given_text a text told o are bytes is = subst (λ (p : Option (List ℕ)). IsTextOf a (unwrap_or p []) text told) is (are (unwrap_or o []) refl)
+of_given : {P : List ℕ → Type 0} (o : Option (List ℕ)) → ForSome (Some (unwrap_or o [])) P → ForSome o P
+of_given {P} o are bytes is = subst (λ (p : Option (List ℕ)). P (unwrap_or p [])) is (are (unwrap_or o []) refl)
 
-given_refusal : (a : Asking) (line : List ℕ) (o : Option (List ℕ)) → ForSome (Some (unwrap_or o [])) (λ bytes. IsRefused a bytes line)
-    → ForSome o (λ bytes. IsRefused a bytes line)
-given_refusal a line o are bytes is = subst (λ (p : Option (List ℕ)). IsRefused a (unwrap_or p []) line) is (are (unwrap_or o []) refl)
+given_new : (bounds : Option BoundsAsked) (a : Asking) (o : Option (List ℕ)) (panel : Panel) (text : List ℕ) → IsTextBy bounds a (Some (unwrap_or o [])) panel text
+    → IsTextBy bounds a o panel text
+given_new None a o panel text is = is
+given_new (Some asked) a o panel text is = of_given {P = AreBoundsAt a asked panel text} o is
+
+given_text : (a : Asking) (text told : List ℕ) (files : NamedFiles) → IsTextOfKnown a (known_in files) text told → IsTextOfKnown a (bytes_under files) text told
+given_text a text told files are bytes is =
+    let of = of_given {P = λ bytes. IsTextOf a (known_in files a.new_prices) bytes text told} (bytes_under files a.file) are bytes is in
+    record {
+      few = of.few;
+      panel = of.panel;
+      denoted = of.denoted;
+      answers = record { is_text = given_new a.bounds a (bytes_under files a.new_prices) of.panel text of.answers.is_text; is_told = of.answers.is_told };
+    }
+
+given_refusal : (a : Asking) (line : List ℕ) (files : NamedFiles) → IsRefusedKnown a (known_in files) line → IsRefusedKnown a (bytes_under files) line
+given_refusal a line files (inl long) = inl (of_given {P = λ bytes. IsRefused a bytes line} (bytes_under files a.file) long)
+given_refusal a line files (inr new) = inr (record {
+  asked = new.asked;
+  accepted = of_given {P = IsPanelFile a} (bytes_under files a.file) new.accepted;
+  many = of_given {P = λ bytes. MOST_BYTES < length bytes} (bytes_under files a.new_prices) new.many;
+  tells = new.tells;
+})
 
 -- the status of a request is that of the run over its files, where each file that it names is given and no more are
 status_of_run : (request : Request) (s : Status) (text told : List ℕ) → ((a : Asking) → asked_of request ≡ Some a → IsWhole request.files a)
@@ -51,7 +73,7 @@ status_of_run request Done text told whole run = record {
   asking = run.asking;
   asks = record { asked = run.asks; few = (whole run.asking run.asks).0 };
   given = (whole run.asking run.asks).1;
-  written = given_text run.asking text told (bytes_under request.files run.asking.file) run.written;
+  written = given_text run.asking text told request.files run.written;
 }
 status_of_run request Usage text told whole run = record { no_asking = run.no_asking; silent = run.silent; tells = run.tells }
 status_of_run request ReadFault text told whole run = absurd run
@@ -60,7 +82,7 @@ status_of_run request Refused text told whole run = record {
   asks = record { asked = run.asks; few = (whole run.asking run.asks).0 };
   given = (whole run.asking run.asks).1;
   silent = run.silent;
-  refuses = given_refusal run.asking told (bytes_under request.files run.asking.file) run.refuses;
+  refuses = given_refusal run.asking told request.files run.refuses;
 }
 status_of_run request WriteFault text told whole run = absurd run
 status_of_run request NoMemory text told whole run = absurd run

@@ -1,9 +1,9 @@
 -- A run over sinks that took all: what it wrote and told, by its status.
-use Rattle.std.proofs.Common.{◌≡◌, ◌≢◌, ℕ, List, [], Option, Some, None, ⊎_elim, refl, sym, subst, arith}
+use Rattle.std.proofs.Common.{◌≡◌, ◌≢◌, ℕ, List, [], Option, Some, None, ⊎_elim, inl, inr, refl, sym, subst, arith}
 use Rattle.rp_outside.specs.Faults.{HasRisen}
 use Rattle.rp_outside.specs.Known.{Grows, Stays}
 use Rattle.rp_outside.specs.SureDesk.{SureState, bytes_or_none}
-use Rattle.rp_panel_run.specs.Endings.{Files, IsRefusedKnown, IsTextOfKnown}
+use Rattle.rp_panel_run.specs.Endings.{Files, IsRefusedKnown, IsTextOfKnown, IsUnread}
 use Rattle.rp_panel_run.specs.Questions.{Asking}
 use Rattle.rp_panel_run.specs.Told.{Gains, usage_line}
 use Rattle.rp_panel_run.specs.declared.status.Status.{Status}
@@ -21,6 +21,11 @@ stayed now stays = let same = stays [] refl in cc
 
 gained : (now text : List ℕ) → Gains (Some []) (Some now) 0 0 text → now ≡ text
 gained now text gains = ⊎_elim (λ grows. grown now text grows) (λ part. absurd (none_risen part.1)) gains
+
+-- no count of faults rises where all are none
+pub unread_risen : (a : Asking) (files : Files) (line : List ℕ) → IsUnread a files (λ name. 0) (λ name. 0) line → HasRisen 0 0
+unread_risen a files line (inl unread) = unread.risen
+unread_risen a files line (inr new) = new.unread.risen
 
 -- the clauses of a run, by what is known before and after: of files, of the output and of standard error
 pub record Clauses (files : Files) (asked : Option Asking) (s : Status) (out_old out : Option (List ℕ)) (out_before out_after : ℕ)

@@ -1,17 +1,17 @@
 -- How a call of the program of panels over files in memory ends. The frame alone decides it, but for want of memory (this
 -- program's own statuses).
-use Rattle.std.specs.Prelude.{◌≡◌, ◌⊎◌, ◌<◌, ◌≤◌, ℕ, List, [], ◌∷◌, Option, Some, None, Ok, codes, length}
+use Rattle.std.specs.Prelude.{◌≡◌, ◌≢◌, ◌⊎◌, ◌<◌, ◌≤◌, ℕ, List, [], ◌∷◌, Option, Some, None, codes, length}
 use Rattle.std.specs.Prelude.{slice_index_or}
 use Rattle.std.specs.Option.{ForSome}
-use Rattle.rp_limits.specs.declared.long.TheConstants.{BYTES}
+use Rattle.rp_limits.specs.declared.run.TheConstants.{MOST_BYTES}
 use Rattle.rp_outside.specs.Files.{bytes_under}
+use Rattle.rp_outside.specs.Known.{AreAtMost}
 use Rattle.rp_frame.specs.Frames.{Frame, Request, request_in}
 use Rattle.rp_frame.specs.Given.{AreGiven, IsFirstMissing}
 use Rattle.rp_frame.specs.Handed.{IsText}
 use Rattle.rp_frame.specs.Rooms.{filled}
-use Rattle.rp_long.specs.Panels.{Panel, panel_in}
-use Rattle.rp_panel_run.specs.Endings.{Files, IsRefusedKnown, IsTextOfKnown, status_number}
-use Rattle.rp_panel_run.specs.Questions.{Asking, asking_in, files_of, id_name}
+use Rattle.rp_panel_run.specs.Endings.{Files, IsPanelFile, IsRefusedKnown, IsTextOfKnown, status_number}
+use Rattle.rp_panel_run.specs.Questions.{Asking, asking_in, files_of}
 use Rattle.rp_panel_run.specs.Told.{memory_line, unread_line, usage_line}
 use Rattle.rp_panel_run.specs.declared.status.Status.{Status}
 use Rattle.rp_panel_run.specs.declared.status.Status.TheVariants.{Done, Usage, ReadFault, Refused, WriteFault}
@@ -127,16 +127,12 @@ pub record EndsSo (frame : Frame) (ending : Ending) (output_old output_new : Lis
   pub told_kept : told_new ≡ filled told_old told
   pub told_counted : told_length ≡ length told
 
--- the long file is not refused: its bytes are few enough and denote a panel
-pub record IsPanelFile (a : Asking) (bytes : List ℕ) : Type 0 where
-  pub few : length bytes ≤ BYTES
-  pub panel : Panel
-  pub denoted : panel_in (id_name a) a.kept bytes ≡ Ok panel
-
+-- no file is refused: the long one is accepted, and where bounds are asked that of new prices has few enough bytes
 abbrev pub IsAccepted : Asking → Files → Type 0
-IsAccepted a files = ForSome (files a.file) (IsPanelFile a)
+IsAccepted a files =
+    ForSome (files a.file) (IsPanelFile a) × (a.bounds ≢ None → AreAtMost MOST_BYTES (files a.new_prices))
 
--- the long file is refused, with some line
+-- a file is refused, with some line
 abbrev pub IsRefusedFile : Asking → Files → Type 0
 IsRefusedFile a files = (line : List ℕ) × IsRefusedKnown a files line
 

@@ -51,8 +51,8 @@ not_taken true o next is e = cc e
 not_taken false o next is e = is
 
 -- what is whole, and what is not
-pub whole : (a : Asking) → is_whole a.awaited ≡ true → where_whole a ≡ Some a
+pub whole : (a : Asking) → is_whole a ≡ true → where_whole a ≡ Some a
 whole a e = rw e refl
 
-pub not_whole : (a : Asking) → is_whole a.awaited ≡ false → where_whole a ≡ None
+pub not_whole : (a : Asking) → is_whole a ≡ false → where_whole a ≡ None
 not_whole a e = rw e refl

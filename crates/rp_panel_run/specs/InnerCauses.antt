@@ -1,33 +1,55 @@
 -- Why a question about a long file has no table, as the functions of this crate hand it on.
-use Rattle.std.specs.Prelude.{◌≡◌, ⊤, ℕ, Bool, true, false, List, Ok, Err}
+use Rattle.std.specs.Prelude.{◌≡◌, ◌≢◌, ◌⊎◌, ⊤, ℕ, Bool, true, false, List, Option, None, Ok, Err, codes}
+use Rattle.rp_limits.specs.declared.run.TheConstants.{MOST_BYTES}
+use Rattle.rp_outside.specs.Known.{AreMoreThan}
 use Rattle.rp_long.specs.Panels.{Panel, denoted_panel}
 use Rattle.rp_long.specs.declared.fault.LongFault.{LongFault}
 use Rattle.rp_long.specs.declared.fault.LongFault.TheVariants as long_fault
 use Rattle.rp_sheet.specs.declared.fault.TableFault.{TableFault}
 use Rattle.rp_sheet.specs.declared.fault.TableFault.TheVariants as table_fault
-use Rattle.rp_panel_run.specs.Endings.{Files, IsAnswerFor, IsRefused, IsRefusedKnown}
+use Rattle.rp_panel_run.specs.Endings.{Files, HasFault, IsAnswerFor, IsPanelFile, IsRefusedKnown, IsUnread}
 use Rattle.rp_panel_run.specs.Questions.{Asking, id_name}
 use Rattle.rp_panel_run.specs.Told.{file_line, long_fault_text, unread_line}
 use Rattle.rp_panel_run.specs.declared.answer.Cause.{Cause}
 use Rattle.rp_panel_run.specs.declared.answer.Cause.TheVariants as cause
 
--- the cause of files whose bytes may not be known; `rose` says that the file's count of faults has risen
-abbrev pub IsCauseOf : Asking → Files → Type 0 → Cause → Type 0
-IsCauseOf a files rose (cause.Read line) = rose × (line.items ≡ unread_line a.file)
-IsCauseOf a files rose (cause.Refused line) = IsRefusedKnown a files line.items
-IsCauseOf a files rose cause.NoMemory = ⊤
+-- the cause of files whose bytes may not be known, with what their counts of faults were and are
+abbrev pub IsCauseOf : Asking → Files → (List ℕ → ℕ) → (List ℕ → ℕ) → Cause → Type 0
+IsCauseOf a files before after (cause.Read line) = IsUnread a files before after line.items
+IsCauseOf a files before after (cause.Refused line) = IsRefusedKnown a files line.items
+IsCauseOf a files before after cause.NoMemory = ⊤
 
--- the cause of these bytes
-abbrev pub IsFaultCause : Asking → List ℕ → Cause → Type 0
-IsFaultCause a bytes (cause.Read line) = ⊥
-IsFaultCause a bytes (cause.Refused line) = IsRefused a bytes line.items
-IsFaultCause a bytes cause.NoMemory = ⊤
+-- why a file of at most so many bytes was not read; `rose` says that its count of faults has risen
+abbrev pub IsLoadCause : List ℕ → ℕ → Option (List ℕ) → Type 0 → Cause → Type 0
+IsLoadCause name limit known rose (cause.Read line) = rose × (line.items ≡ unread_line name)
+IsLoadCause name limit known rose (cause.Refused line) =
+    AreMoreThan limit known × (line.items ≡ file_line name (codes "TooLong"))
+IsLoadCause name limit known rose cause.NoMemory = ⊤
+
+-- why there is no text for a panel: bounds are asked, and the file of new prices was not read
+abbrev pub IsNewCause : Asking → Option (List ℕ) → Type 0 → Cause → Type 0
+IsNewCause a new rose (cause.Read line) = (a.bounds ≢ None) × rose × (line.items ≡ unread_line a.new_prices)
+IsNewCause a new rose (cause.Refused line) =
+    (a.bounds ≢ None) × AreMoreThan MOST_BYTES new × (line.items ≡ file_line a.new_prices (codes "TooLong"))
+IsNewCause a new rose cause.NoMemory = ⊤
+
+-- the cause of these bytes of the long file, beside a file of new prices
+abbrev pub IsFaultCause : Asking → Option (List ℕ) → Type 0 → List ℕ → Cause → Type 0
+IsFaultCause a new rose bytes (cause.Read line) = IsPanelFile a bytes × IsNewCause a new rose (cause.Read line)
+IsFaultCause a new rose bytes (cause.Refused line) =
+    HasFault a bytes line.items ⊎ (IsPanelFile a bytes × IsNewCause a new rose (cause.Refused line))
+IsFaultCause a new rose bytes cause.NoMemory = ⊤
 
 -- the records denote a panel, and this is the answer for it
-pub record IsTextOfRecords (a : Asking) (records : List (List (List ℕ))) (text told : List ℕ) : Type 0 where
+pub record IsTextOfRecords (a : Asking) (new : Option (List ℕ)) (records : List (List (List ℕ))) (text told : List ℕ)
+    : Type 0 where
   pub panel : Panel
   pub denoted : denoted_panel (id_name a) a.kept records ≡ Ok panel
-  pub answers : IsAnswerFor a panel text told
+  pub answers : IsAnswerFor a new panel text told
+
+-- the records denote a panel
+abbrev pub DenotePanel : Asking → List (List (List ℕ)) → Type 0
+DenotePanel a records = (panel : Panel) × (denoted_panel (id_name a) a.kept records ≡ Ok panel)
 
 -- the records denote no panel, and this line tells their first fault
 pub record IsFaultLine (a : Asking) (records : List (List (List ℕ))) (line : List ℕ) : Type 0 where
@@ -36,22 +58,24 @@ pub record IsFaultLine (a : Asking) (records : List (List (List ℕ))) (line : L
   pub tells : line ≡ file_line a.file (long_fault_text fault)
 
 -- the cause of these records
-abbrev pub IsFaultOfRecords : Asking → List (List (List ℕ)) → Cause → Type 0
-IsFaultOfRecords a records (cause.Read line) = ⊥
-IsFaultOfRecords a records (cause.Refused line) = IsFaultLine a records line.items
-IsFaultOfRecords a records cause.NoMemory = ⊤
+abbrev pub IsFaultOfRecords : Asking → Option (List ℕ) → Type 0 → List (List (List ℕ)) → Cause → Type 0
+IsFaultOfRecords a new rose records (cause.Read line) =
+    DenotePanel a records × IsNewCause a new rose (cause.Read line)
+IsFaultOfRecords a new rose records (cause.Refused line) =
+    IsFaultLine a records line.items ⊎ (DenotePanel a records × IsNewCause a new rose (cause.Refused line))
+IsFaultOfRecords a new rose records cause.NoMemory = ⊤
 
--- a refusal with this text about the file
-abbrev pub IsToldAs : Asking → List ℕ → Cause → Type 0
-IsToldAs a text (cause.Read line) = ⊥
-IsToldAs a text (cause.Refused line) = line.items ≡ file_line a.file text
-IsToldAs a text cause.NoMemory = ⊤
+-- a refusal with this text about a file
+abbrev pub IsToldAs : List ℕ → List ℕ → Cause → Type 0
+IsToldAs file text (cause.Read line) = ⊥
+IsToldAs file text (cause.Refused line) = line.items ≡ file_line file text
+IsToldAs file text cause.NoMemory = ⊤
 
--- that the file could not be read
-abbrev pub IsUnread : Asking → Cause → Type 0
-IsUnread a (cause.Read line) = line.items ≡ unread_line a.file
-IsUnread a (cause.Refused line) = ⊥
-IsUnread a cause.NoMemory = ⊤
+-- that a file could not be read
+abbrev pub IsToldUnread : List ℕ → Cause → Type 0
+IsToldUnread file (cause.Read line) = line.items ≡ unread_line file
+IsToldUnread file (cause.Refused line) = ⊥
+IsToldUnread file cause.NoMemory = ⊤
 
 -- whether a fault is want of memory, of which no file is the cause
 abbrev pub is_table_memory : TableFault → Bool

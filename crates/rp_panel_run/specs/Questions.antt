@@ -1,11 +1,14 @@
--- What the words of the program ask: the long file, the name of its column of ids, the names of the columns whose texts are
--- kept, what is asked of each household beside the verdicts, and how the homothetic test is answered.
-use Rattle.std.specs.Prelude.{ℕ, ◌-◌, ◌^◌, Bool, true, false, not, ◌==◌, if◌then◌else◌, List, [], ◌∷◌, ◌++◌}
-use Rattle.std.specs.Prelude.{length, drop, codes, Option, None, Some, option_and_then, option_map}
+-- What the words of the program ask: the long file, the name of its column of ids, the names of the columns whose texts
+-- are kept, what is asked of each household beside the verdicts, and how the homothetic test is answered; or in place of
+-- these two, which bounds at the new prices of another file.
+use Rattle.std.specs.Prelude.{ℕ, ◌-◌, ◌^◌, Bool, true, false, not, ◌&&◌, ◌||◌, ◌==◌, if◌then◌else◌, List, [], ◌∷◌, ◌++◌}
+use Rattle.std.specs.Prelude.{length, drop, codes, Option, None, Some, is_some, option_and_then, option_map}
 use Rattle.std.specs.Str.{bytes_eq}
 use Rattle.rp_limits.specs.declared.command_line.TheConstants.{MOST_DRAWS}
 use Rattle.rp_evidence.specs.declared.homothetic.Homothetic.{Homothetic}
 use Rattle.rp_table.specs.Tables.{Observations}
+use Rattle.rp_bound_rows.specs.declared.asked.BoundsAsked.{BoundsAsked}
+use Rattle.rp_bound_rows.specs.declared.asked.BoundsAsked.TheVariants.{Demand, Welfare}
 use Rattle.rp_rows.specs.Verdicts.{given_as_stated}
 use Rattle.rp_rows.specs.declared.asked.Asked.{Asked}
 use Rattle.rp_rows_wide.specs.FilledTest.{IsGivenFilled}
@@ -16,7 +19,7 @@ use Rattle.rp_panel_run.specs.declared.question.Named.{Named}
 use Rattle.rp_panel_run.specs.declared.question.Named.TheVariants as named
 
 -- what is asked by the words that are read so far, and what the next one is. An empty file or name of ids is none yet,
--- and so are 0 behaviours
+-- and so are 0 behaviours; `new_prices` is the file of new prices where bounds are asked
 pub record Asking : Type 0 where
   pub file : List ℕ
   pub id : List ℕ
@@ -25,6 +28,8 @@ pub record Asking : Type 0 where
   pub wide : Bool
   pub draws : ℕ
   pub seed : ℕ
+  pub bounds : Option BoundsAsked
+  pub new_prices : List ℕ
   pub awaited : Awaited
 
 -- before the first word after the program's name
@@ -37,6 +42,8 @@ nothing_read = record {
   wide = false;
   draws = 0;
   seed = 0;
+  bounds = None;
+  new_prices = [];
   awaited = wait.File;
 }
 
@@ -55,6 +62,8 @@ awaiting next a = record {
   wide = a.wide;
   draws = a.draws;
   seed = a.seed;
+  bounds = a.bounds;
+  new_prices = a.new_prices;
   awaited = next;
 }
 
@@ -68,6 +77,8 @@ with_file a word = record {
   wide = a.wide;
   draws = a.draws;
   seed = a.seed;
+  bounds = a.bounds;
+  new_prices = a.new_prices;
   awaited = wait.Option;
 }
 
@@ -80,6 +91,8 @@ with_id a word = record {
   wide = a.wide;
   draws = a.draws;
   seed = a.seed;
+  bounds = a.bounds;
+  new_prices = a.new_prices;
   awaited = wait.Option;
 }
 
@@ -92,6 +105,8 @@ with_kept a word = record {
   wide = a.wide;
   draws = a.draws;
   seed = a.seed;
+  bounds = a.bounds;
+  new_prices = a.new_prices;
   awaited = wait.Option;
 }
 
@@ -104,6 +119,8 @@ with_pump a = record {
   wide = a.wide;
   draws = a.draws;
   seed = a.seed;
+  bounds = a.bounds;
+  new_prices = a.new_prices;
   awaited = wait.Option;
 }
 
@@ -116,6 +133,8 @@ with_wide a = record {
   wide = true;
   draws = a.draws;
   seed = a.seed;
+  bounds = a.bounds;
+  new_prices = a.new_prices;
   awaited = wait.Option;
 }
 
@@ -128,6 +147,8 @@ with_draws a draws = record {
   wide = a.wide;
   draws = draws;
   seed = a.seed;
+  bounds = a.bounds;
+  new_prices = a.new_prices;
   awaited = wait.Seed;
 }
 
@@ -140,6 +161,22 @@ with_seed a seed = record {
   wide = a.wide;
   draws = a.draws;
   seed = seed;
+  bounds = a.bounds;
+  new_prices = a.new_prices;
+  awaited = wait.Option;
+}
+
+abbrev pub with_bounds : Asking → BoundsAsked → List ℕ → Asking
+with_bounds a asked word = record {
+  file = a.file;
+  id = a.id;
+  kept = a.kept;
+  pump = a.pump;
+  wide = a.wide;
+  draws = a.draws;
+  seed = a.seed;
+  bounds = Some asked;
+  new_prices = word;
   awaited = wait.Option;
 }
 
@@ -151,15 +188,18 @@ named_option word =
     else if bytes_eq word (codes "--id") then named.Id
     else if bytes_eq word (codes "--keep") then named.Keep
     else if bytes_eq word (codes "--power") then named.Power
+    else if bytes_eq word (codes "--demand") then named.Bounds Demand
+    else if bytes_eq word (codes "--welfare") then named.Bounds Welfare
     else named.Other
 
--- with an option, each of which but `--keep` stands once
+-- with an option, each of which but `--keep` stands once, and of those of bounds one
 unfoldable pub option_taken : Asking → Named → Option Asking
 option_taken a named.Pump = if a.pump then None else Some (with_pump a)
 option_taken a named.Wide = if a.wide then None else Some (with_wide a)
 option_taken a named.Id = if length a.id == 0 then Some (awaiting wait.Id a) else None
 option_taken a named.Keep = Some (awaiting wait.Kept a)
 option_taken a named.Power = if a.draws == 0 then Some (awaiting wait.Draws a) else None
+option_taken a (named.Bounds asked) = if is_some a.bounds then None else Some (awaiting (wait.NewPrices asked) a)
 option_taken a named.Other = None
 
 -- with how many behaviours are drawn: from 1 to the limit
@@ -175,6 +215,7 @@ taken_as wait.Id a word = if length word == 0 then None else Some (with_id a wor
 taken_as wait.Kept a word = Some (with_kept a word)
 taken_as wait.Draws a word = draws_taken a (number_in MOST_DRAWS word)
 taken_as wait.Seed a word = option_map (with_seed a) (number_in (2 ^ 64 - 1) word)
+taken_as (wait.NewPrices asked) a word = if is_file_name word then Some (with_bounds a asked word) else None
 
 abbrev pub taken : Asking → List ℕ → Option Asking
 taken a word = taken_as a.awaited a word
@@ -184,17 +225,26 @@ abbrev pub all_taken : Asking → List (List ℕ) → Option Asking
 all_taken a [] = Some a
 all_taken a (word ∷ words) = option_and_then (λ next. all_taken next words) (taken a word)
 
--- nothing is missing after these words
-abbrev pub is_whole : Awaited → Bool
-is_whole wait.File = false
-is_whole wait.Option = true
-is_whole wait.Id = false
-is_whole wait.Kept = false
-is_whole wait.Draws = false
-is_whole wait.Seed = false
+-- no word is missing
+abbrev pub is_at_option : Awaited → Bool
+is_at_option wait.File = false
+is_at_option wait.Option = true
+is_at_option wait.Id = false
+is_at_option wait.Kept = false
+is_at_option wait.Draws = false
+is_at_option wait.Seed = false
+is_at_option (wait.NewPrices asked) = false
+
+-- beside bounds nothing is asked of the verdicts
+abbrev pub go_together : Asking → Bool
+go_together a = not (is_some a.bounds) || not (a.pump || a.wide || not (a.draws == 0))
+
+-- no word is missing, and those that there are go together
+abbrev pub is_whole : Asking → Bool
+is_whole a = is_at_option a.awaited && go_together a
 
 abbrev pub where_whole : Asking → Option Asking
-where_whole a = if is_whole a.awaited then Some a else None
+where_whole a = if is_whole a then Some a else None
 
 -- what words ask, of which the first is the program's name
 unfoldable pub asking_in : List (List ℕ) → Option Asking
@@ -204,9 +254,13 @@ asking_in words = option_and_then where_whole (all_taken nothing_read (drop 1 wo
 abbrev pub id_name : Asking → List ℕ
 id_name a = if length a.id == 0 then codes "household" else a.id
 
--- the names of the files that are asked for, in the order of the words
+-- the names of the files that are asked for: the long file, and that of new prices where bounds are asked
+abbrev pub new_files : Option BoundsAsked → List ℕ → List (List ℕ)
+new_files None new = []
+new_files (Some asked) new = new ∷ []
+
 abbrev pub files_of : Asking → List (List ℕ)
-files_of a = a.file ∷ []
+files_of a = a.file ∷ new_files a.bounds a.new_prices
 
 -- how the homothetic test is answered: with what else is found where it is withheld, or as it stands
 abbrev pub given_by : Bool → Observations → Homothetic → Type 0

@@ -1,17 +1,27 @@
-//! The table of a long file, or why there is none.
-ghost use Rattle.std.specs.Prelude.{◌≡◌, ◌≤◌, IfErr, IfOk, length};
+//! The table of a long file, or its bounds at the prices of a second file, or why there is none.
+ghost use Rattle.std.specs.Prelude.{◌≡◌, ◌<◌, ◌≤◌, ◌^◌, IfErr, IfOk, Some, length};
+ghost use Rattle.std.specs.Option.{ForSome};
+ghost use Rattle.rp_bound_rows.specs.AsStated.{demand_as_stated, welfare_as_stated};
+ghost use Rattle.rp_bounds_panel.specs.BoundsText.{IsBoundsText};
 ghost use Rattle.rp_limits.specs.declared.long.TheConstants.{BYTES};
+ghost use Rattle.rp_limits.specs.declared.run.TheConstants.{MOST_BYTES};
 ghost use Rattle.rp_outside.specs.Faults.{EachStays, HasRisen};
+ghost use Rattle.rp_outside.specs.Known.{AreAll};
 ghost use Rattle.rp_panel.specs.PanelText.{IsPanelText};
-ghost use Rattle.rp_panel_run.specs.Endings.{IsAnswerFor, IsTextOf, IsTextOfKnown};
-ghost use Rattle.rp_panel_run.specs.InnerCauses.{IsCauseOf, IsFaultCause, IsFaultOfRecords, IsToldAs};
-ghost use Rattle.rp_panel_run.specs.InnerCauses.{IsTextOfRecords, IsUnread, is_memory};
+ghost use Rattle.rp_panel_run.specs.Endings.{AreBoundsAt, IsAnswerFor, IsTextBy, IsTextOf};
+ghost use Rattle.rp_panel_run.specs.Endings.{IsTextOfKnown};
+ghost use Rattle.rp_panel_run.specs.InnerCauses.{IsCauseOf, IsFaultCause, IsFaultOfRecords};
+ghost use Rattle.rp_panel_run.specs.InnerCauses.{IsLoadCause, IsNewCause, IsTextOfRecords, IsToldAs};
+ghost use Rattle.rp_panel_run.specs.InnerCauses.{IsToldUnread, is_memory};
 ghost use Rattle.rp_panel_run.specs.Questions.{given_by, more_asked};
 ghost use Rattle.rp_panel_run.specs.Told as Told;
 
 use crate::question::Question;
 use crate::telling::{left_out_lines, line_about, long_fault_text, unread_line};
+use rp_bound_rows::{AsStated as BoundsAsStated, BoundsAsked};
+use rp_bounds_panel::write_bounds;
 use rp_limits::long::BYTES;
+use rp_limits::run::MOST_BYTES;
 use rp_long::{Households, LongFault, read_long_records, read_panel};
 use rp_num::NoMemory;
 use rp_outside::{Desk, LoadFault, load};
@@ -48,8 +58,8 @@ impl From<NoMemory> for Cause {
     }
 }
 
-/// The table of the file that a question names.
-pub(crate) fn answer_file<D: Desk>(
+/// The answer for the files that a question names.
+pub(crate) fn answer_files<D: Desk>(
     alloc: Global,
     desk: &mut D,
     question: &Question<'_>,
@@ -57,68 +67,171 @@ pub(crate) fn answer_file<D: Desk>(
     ensures written { IfOk result (λ answer. IsTextOfKnown question.now (D.bytes desk.old)
         answer.text.items answer.told.items) }
     ensures caused { IfErr result (IsCauseOf question.now (D.bytes desk.old)
-        (HasRisen (D.faults desk.old question.now.file) (D.faults desk.new question.now.file))) }
+        (D.faults desk.old) (D.faults desk.new)) }
     ensures bytes_stay { EachStays (D.bytes desk.old) (D.bytes desk.new) }
 {
-    match load(alloc, desk, question.file(), BYTES) {
-        Ok(bytes) => answer_bytes(alloc, question, bytes.as_slice()),
-        Err(LoadFault::Read) => Err(unread(alloc, question)),
-        Err(LoadFault::TooLong) => Err(refused(alloc, question, b"TooLong")),
+    match load_file(alloc, desk, question.file(), BYTES) {
+        Ok(bytes) => answer_bytes(alloc, desk, question, bytes.as_slice()),
+        Err(cause) => Err(cause),
+    }
+}
+
+/// All bytes of a file, of which there are at most so many.
+fn load_file<D: Desk>(alloc: Global, desk: &mut D, name: &str, limit: u64) -> Result<Vec<u8>, Cause>
+    requires { limit < 2 ^ 32 }
+    ensures whole { IfOk result (λ bytes. AreAll (D.bytes desk.old name.now) bytes.items) }
+    ensures few { IfOk result (λ bytes. length bytes.items ≤ limit) }
+    ensures counted { IfOk result (λ _. EachStays (D.faults desk.old) (D.faults desk.new)) }
+    ensures caused { IfErr result (IsLoadCause name.now limit (D.bytes desk.old name.now)
+        (HasRisen (D.faults desk.old name.now) (D.faults desk.new name.now))) }
+    ensures bytes_stay { EachStays (D.bytes desk.old) (D.bytes desk.new) }
+{
+    match load(alloc, desk, name, limit) {
+        Ok(bytes) => Ok(bytes),
+        Err(LoadFault::Read) => Err(unread(alloc, name)),
+        Err(LoadFault::TooLong) => Err(refused(alloc, name, b"TooLong")),
         Err(LoadFault::NoMemory) => Err(Cause::NoMemory),
     }
 }
 
-/// The cause where the file could not be read.
-fn unread(alloc: Global, question: &Question<'_>) -> Cause
-    ensures { IsUnread question.now result }
+/// The cause where a file could not be read.
+fn unread(alloc: Global, name: &str) -> Cause
+    ensures { IsToldUnread name.now result }
 {
-    match unread_line(alloc, question.file()) {
+    match unread_line(alloc, name) {
         Ok(line) => Cause::Read(line),
         Err(_) => Cause::NoMemory,
     }
 }
 
-/// The table of these bytes.
-fn answer_bytes(alloc: Global, question: &Question<'_>, bytes: &[u8]) -> Result<Answer, Cause>
-    requires { length bytes.now ≤ BYTES }
-    ensures written { IfOk result (λ answer. IsTextOf question.now bytes.now
-        answer.text.items answer.told.items) }
-    ensures caused { IfErr result (IsFaultCause question.now bytes.now) }
-{
-    let records = read_long_records(alloc, bytes)?;
-    answer_records(alloc, question, &records)
-}
-
-/// The table of these records.
-fn answer_records(
+/// The answer for these bytes of the long file.
+fn answer_bytes<D: Desk>(
     alloc: Global,
+    desk: &mut D,
     question: &Question<'_>,
-    records: &Records,
+    bytes: &[u8],
 ) -> Result<Answer, Cause>
-    ensures written { IfOk result (λ answer. IsTextOfRecords question.now records.now
-        answer.text.items answer.told.items) }
-    ensures caused { IfErr result (IsFaultOfRecords question.now records.now) }
+    requires { length bytes.now ≤ BYTES }
+    ensures written { IfOk result (λ answer. IsTextOf question.now
+        (D.bytes desk.old question.now.new_prices)
+        bytes.now answer.text.items answer.told.items) }
+    ensures caused { IfErr result (IsFaultCause question.now
+        (D.bytes desk.old question.now.new_prices)
+        (HasRisen (D.faults desk.old question.now.new_prices)
+        (D.faults desk.new question.now.new_prices)) bytes.now) }
+    ensures bytes_stay { EachStays (D.bytes desk.old) (D.bytes desk.new) }
 {
-    match read_panel(alloc, records, question.id_name(), question.kept()) {
-        Ok(panel) => Ok(answer_panel(alloc, question, &panel)?),
-        Err(fault) if is_memory(fault) => Err(Cause::NoMemory),
-        Err(fault) => Err(refused_for(alloc, question, fault)),
+    match read_long_records(alloc, bytes) {
+        Ok(records) => answer_records(alloc, desk, question, &records),
+        Err(_) => Err(Cause::NoMemory),
     }
 }
 
-/// The table of this panel.
-fn answer_panel(
+/// The answer for these records.
+fn answer_records<D: Desk>(
     alloc: Global,
+    desk: &mut D,
+    question: &Question<'_>,
+    records: &Records,
+) -> Result<Answer, Cause>
+    ensures written { IfOk result (λ answer. IsTextOfRecords question.now
+        (D.bytes desk.old question.now.new_prices) records.now answer.text.items answer.told.items) }
+    ensures caused { IfErr result (IsFaultOfRecords question.now
+        (D.bytes desk.old question.now.new_prices)
+        (HasRisen (D.faults desk.old question.now.new_prices)
+        (D.faults desk.new question.now.new_prices)) records.now) }
+    ensures bytes_stay { EachStays (D.bytes desk.old) (D.bytes desk.new) }
+{
+    match read_panel(alloc, records, question.id_name(), question.kept()) {
+        Ok(panel) => answer_panel(alloc, desk, question, &panel),
+        Err(fault) if is_memory(fault) => Err(Cause::NoMemory),
+        Err(fault) => Err(refused_for(alloc, question.file(), fault)),
+    }
+}
+
+/// The answer for this panel.
+fn answer_panel<D: Desk>(
+    alloc: Global,
+    desk: &mut D,
     question: &Question<'_>,
     panel: &Households<'_>,
-) -> Result<Answer, NoMemory>
-    ensures { IfOk result (λ answer. IsAnswerFor question.now panel.now
-        answer.text.items answer.told.items) }
+) -> Result<Answer, Cause>
+    ensures written { IfOk result (λ answer. IsAnswerFor question.now
+        (D.bytes desk.old question.now.new_prices) panel.now answer.text.items answer.told.items) }
+    ensures caused { IfErr result (IsNewCause question.now
+        (D.bytes desk.old question.now.new_prices)
+        (HasRisen (D.faults desk.old question.now.new_prices)
+        (D.faults desk.new question.now.new_prices))) }
+    ensures bytes_stay { EachStays (D.bytes desk.old) (D.bytes desk.new) }
 {
     let columns = panel.left_out(alloc)?;
     let told = left_out_lines(alloc, columns.as_slice())?;
-    let text = table_text(alloc, question, panel)?;
+    let text = panel_text(alloc, desk, question, panel)?;
     Ok(Answer { text, told })
+}
+
+/// The text for this panel: that of its table, or of the bounds that are asked.
+fn panel_text<D: Desk>(
+    alloc: Global,
+    desk: &mut D,
+    question: &Question<'_>,
+    panel: &Households<'_>,
+) -> Result<Vec<u8>, Cause>
+    ensures written { IfOk result (λ text. IsTextBy question.now.bounds question.now
+        (D.bytes desk.old question.now.new_prices) panel.now text.items) }
+    ensures caused { IfErr result (IsNewCause question.now
+        (D.bytes desk.old question.now.new_prices)
+        (HasRisen (D.faults desk.old question.now.new_prices)
+        (D.faults desk.new question.now.new_prices))) }
+    ensures bytes_stay { EachStays (D.bytes desk.old) (D.bytes desk.new) }
+{
+    match question.bounds() {
+        Some(asked) => bounds_text(alloc, desk, question, asked, panel),
+        None => {
+            let text = table_text(alloc, question, panel)?;
+            Ok(text)
+        }
+    }
+}
+
+/// The text of the bounds of this panel at the prices of the file of new ones.
+fn bounds_text<D: Desk>(
+    alloc: Global,
+    desk: &mut D,
+    question: &Question<'_>,
+    asked: BoundsAsked,
+    panel: &Households<'_>,
+) -> Result<Vec<u8>, Cause>
+    requires { question.now.bounds ≡ Some asked }
+    ensures written { IfOk result (λ text. ForSome (D.bytes desk.old question.now.new_prices)
+        (AreBoundsAt question.now asked panel.now text.items)) }
+    ensures caused { IfErr result (IsNewCause question.now
+        (D.bytes desk.old question.now.new_prices)
+        (HasRisen (D.faults desk.old question.now.new_prices)
+        (D.faults desk.new question.now.new_prices))) }
+    ensures bytes_stay { EachStays (D.bytes desk.old) (D.bytes desk.new) }
+{
+    match load_file(alloc, desk, question.new_file(), MOST_BYTES) {
+        Ok(new) => {
+            let text = bounds_text_at(alloc, question, asked, new.as_slice(), panel)?;
+            Ok(text)
+        }
+        Err(cause) => Err(cause),
+    }
+}
+
+/// The text of the bounds of this panel at the prices of these bytes. Here it is chosen how bounds are found.
+fn bounds_text_at(
+    alloc: Global,
+    question: &Question<'_>,
+    asked: BoundsAsked,
+    new: &[u8],
+    panel: &Households<'_>,
+) -> Result<Vec<u8>, NoMemory>
+    ensures { IfOk result (λ text. IsBoundsText demand_as_stated welfare_as_stated asked new.now
+        question.now.kept panel.now text.items) }
+{
+    write_bounds::<BoundsAsStated>(alloc, asked, new, question.kept(), panel)
 }
 
 /// The text of the table of this panel.
@@ -159,20 +272,20 @@ fn is_memory(fault: LongFault) -> bool
 }
 
 /// The cause that a fault of a file is.
-fn refused_for(alloc: Global, question: &Question<'_>, fault: LongFault) -> Cause
-    ensures { IsToldAs question.now (Told.long_fault_text fault) result }
+fn refused_for(alloc: Global, name: &str, fault: LongFault) -> Cause
+    ensures { IsToldAs name.now (Told.long_fault_text fault) result }
 {
     match long_fault_text(alloc, fault) {
-        Ok(text) => refused(alloc, question, text.as_slice()),
+        Ok(text) => refused(alloc, name, text.as_slice()),
         Err(_) => Cause::NoMemory,
     }
 }
 
-/// The cause of a refusal with that text.
-fn refused(alloc: Global, question: &Question<'_>, text: &[u8]) -> Cause
-    ensures { IsToldAs question.now text.now result }
+/// The cause of a refusal of a file with that text.
+fn refused(alloc: Global, name: &str, text: &[u8]) -> Cause
+    ensures { IsToldAs name.now text.now result }
 {
-    match line_about(alloc, question.file(), text) {
+    match line_about(alloc, name, text) {
         Ok(line) => Cause::Refused(line),
         Err(_) => Cause::NoMemory,
     }

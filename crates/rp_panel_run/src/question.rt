@@ -1,13 +1,15 @@
 //! What the words ask, word by word.
 ghost use Rattle.std.specs.Prelude.{◌≡◌, ◌≤◌, ◌==◌, Some, None, IfOk, IfSome, if◌then◌else◌, length, map};
-ghost use Rattle.std.specs.Prelude.{option_map};
+ghost use Rattle.std.specs.Prelude.{is_some, option_map};
 ghost use Rattle.rp_limits.specs.declared.command_line.TheConstants.{MOST_DRAWS};
 ghost use Rattle.rp_panel_run.specs.Questions as Questions;
-ghost use Rattle.rp_panel_run.specs.Questions.{draws_taken, files_of, id_name, is_file_name, is_whole};
+ghost use Rattle.rp_panel_run.specs.Questions.{draws_taken, files_of, go_together, id_name};
+ghost use Rattle.rp_panel_run.specs.Questions.{is_file_name, is_whole};
 ghost use Rattle.rp_panel_run.specs.Questions.{more_asked, named_option, nothing_read};
 ghost use Rattle.rp_panel_run.specs.Questions.{option_taken, taken};
 
 use crate::number::number_in;
+use rp_bound_rows::BoundsAsked;
 use rp_limits::command_line::MOST_DRAWS;
 use rp_num::NoMemory;
 use rp_rows::{Asked, Draws};
@@ -29,6 +31,8 @@ pub enum Awaited {
     Draws,
     /// The seed by which they are drawn.
     Seed,
+    /// The name of the file of new prices, at which these bounds are asked.
+    NewPrices(BoundsAsked),
 }
 
 /// An option, or what is none.
@@ -39,6 +43,7 @@ pub enum Named {
     Id,
     Keep,
     Power,
+    Bounds(BoundsAsked),
     Other,
 }
 
@@ -52,6 +57,8 @@ pub(crate) struct Question<'a> {
     wide: bool,
     draws: u32,
     seed: u64,
+    bounds: Option<BoundsAsked>,
+    new_prices: &'a str,
     awaited: Awaited,
 }
 
@@ -69,6 +76,8 @@ impl<'a> Model for Question<'a> {
       wide = q.wide;
       draws = q.draws;
       seed = q.seed;
+      bounds = q.bounds;
+      new_prices = q.new_prices.now;
       awaited = q.awaited;
     } };
 }
@@ -86,6 +95,8 @@ impl<'a> Question<'a> {
             wide: false,
             draws: 0,
             seed: 0,
+            bounds: None,
+            new_prices: "",
             awaited: Awaited::File,
         }
     }
@@ -107,6 +118,7 @@ impl<'a> Question<'a> {
             }
             Awaited::Draws => Ok(self.take_draws(number_in(MOST_DRAWS, word.as_bytes()))),
             Awaited::Seed => Ok(self.take_seed(number_in(u64::MAX, word.as_bytes()))),
+            Awaited::NewPrices(asked) => Ok(self.take_new_prices(asked, word)),
         }
     }
 
@@ -137,6 +149,7 @@ impl<'a> Question<'a> {
                 true
             }
             Named::Power => self.await_draws(),
+            Named::Bounds(asked) => self.await_new_prices(asked),
             Named::Other => false,
         }
     }
@@ -191,6 +204,32 @@ impl<'a> Question<'a> {
         true
     }
 
+    /// Awaits the name of the file of new prices.
+    fn await_new_prices(&mut self, asked: BoundsAsked) -> bool
+        ensures { (if result then Some self.new else None) ≡ (if is_some self.old.bounds
+            then None else Some (Questions.awaiting (Awaited.NewPrices asked) self.old)) }
+    {
+        if self.bounds.is_some() {
+            return false;
+        }
+        self.awaited = Awaited::NewPrices(asked);
+        true
+    }
+
+    /// Takes the name of the file of new prices.
+    fn take_new_prices(&mut self, asked: BoundsAsked, word: &'a str) -> bool
+        ensures { (if result then Some self.new else None) ≡ (if is_file_name word.now
+            then Some (Questions.with_bounds self.old asked word.now) else None) }
+    {
+        if !is_file_name(word.as_bytes()) {
+            return false;
+        }
+        self.bounds = Some(asked);
+        self.new_prices = word;
+        self.awaited = Awaited::Option;
+        true
+    }
+
     /// Takes the name of the column of ids.
     fn take_id(&mut self, word: &'a str) -> bool
         ensures { (if result then Some self.new else None)
@@ -235,26 +274,56 @@ impl<'a> Question<'a> {
         }
     }
 
-    /// Whether nothing is missing.
+    /// Whether no word is missing, and those that there are go together.
     pub(crate) fn is_whole(&self) -> bool
-        ensures { result ≡ is_whole self.now.awaited }
+        ensures { result ≡ is_whole self.now }
     {
-        self.awaited == Awaited::Option
+        match self.awaited {
+            Awaited::Option => self.go_together(),
+            _ => false,
+        }
     }
 
-    /// The name of the file.
+    /// Whether nothing is asked of the verdicts beside bounds.
+    fn go_together(&self) -> bool
+        ensures { result ≡ go_together self.now }
+    {
+        if self.bounds.is_none() {
+            return true;
+        }
+        !self.pump && !self.wide && self.draws == 0
+    }
+
+    /// The name of the long file.
     pub(crate) fn file(&self) -> &'a str
         ensures { result.now ≡ self.now.file }
     {
         self.file
     }
 
-    /// The names of the files that are asked for, in the order of the words.
+    /// Which bounds are asked, where any are.
+    pub(crate) fn bounds(&self) -> Option<BoundsAsked>
+        ensures { result ≡ self.now.bounds }
+    {
+        self.bounds
+    }
+
+    /// The name of the file of new prices, where bounds are asked.
+    pub(crate) fn new_file(&self) -> &'a str
+        ensures { result.now ≡ self.now.new_prices }
+    {
+        self.new_prices
+    }
+
+    /// The names of the files that are asked for: the long file, and that of new prices where bounds are asked.
     pub(crate) fn files(&self, alloc: Global) -> Result<Vec<&'a str>, NoMemory>
         ensures { IfOk result (λ names. map (λ name. name.now) names.items ≡ files_of self.now) }
     {
         let mut names = Vec::new(alloc);
         names.push(self.file)?;
+        if self.bounds.is_some() {
+            names.push(self.new_prices)?;
+        }
         Ok(names)
     }
 
@@ -325,6 +394,12 @@ fn named_option(word: &str) -> Named
     }
     if word == "--power" {
         return Named::Power;
+    }
+    if word == "--demand" {
+        return Named::Bounds(BoundsAsked::Demand);
+    }
+    if word == "--welfare" {
+        return Named::Bounds(BoundsAsked::Welfare);
     }
     Named::Other
 }

@@ -1,14 +1,13 @@
-//! A call of the program: its words, the table of the long file that they name, and what is written and told.
+//! A call of the program: its words, the table of the files that they name, and what is written and told.
 ghost use Rattle.std.specs.Prelude.{◌≡◌, ◌≢◌, ◌⊎◌, ◌≤◌, ℕ, List, None, Some, map, string_bytes};
 ghost use Rattle.rp_outside.specs.Faults.{EachStays, HasRisen};
 ghost use Rattle.rp_outside.specs.Known.{Grows, GrowsByPrefix, Stays};
-ghost use Rattle.rp_panel_run.specs.Endings.{IsRefusedKnown, IsTextOfKnown};
+ghost use Rattle.rp_panel_run.specs.Endings.{IsRefusedKnown, IsTextOfKnown, IsUnread};
 ghost use Rattle.rp_panel_run.specs.Questions.{Asking, asking_in};
-ghost use Rattle.rp_panel_run.specs.Told.{Gains, GainsBoth, memory_line, unread_line, usage_line};
-ghost use Rattle.rp_panel_run.specs.Told.{write_line};
+ghost use Rattle.rp_panel_run.specs.Told.{Gains, GainsBoth, memory_line, usage_line, write_line};
 
 use crate::Status;
-use crate::answer::{Answer, Cause, answer_file};
+use crate::answer::{Answer, Cause, answer_files};
 use crate::telling::tell;
 use crate::words::read_words;
 use rp_outside::{Desk, Sink, pour};
@@ -16,11 +15,13 @@ use std::alloc::Global;
 
 /// What is told where the words are none that the program takes.
 const USAGE: &[u8] =
-    b"usage: rp-panel LONG [--id NAME] [--keep NAME].. [--pump] [--power DRAWS SEED] [--wide]\n";
+    b"usage: rp-panel LONG [--id NAME] [--keep NAME].. [--pump] [--power DRAWS SEED] [--wide]\n\
+    \x20      rp-panel LONG [--id NAME] [--keep NAME].. (--demand | --welfare) NEW\n";
 
 /// Answers the words of a command line over the files of a desk: a row for each household of the long file that they
-/// name. The table goes to `out`. What goes to `err`, whose failures change no status, is a line for each column that is
-/// left out, before the table is written, or the reason why there is none.
+/// name, or its lines of bounds at the new prices of a second file. The table goes to `out`. What goes to `err`, whose
+/// failures change no status, is a line for each column that is left out, before the table is written, or the reason why
+/// there is none.
 pub fn run_panel<D: Desk, O: Sink, E: Sink>(
     alloc: Global,
     words: &Vec<String>,
@@ -59,11 +60,11 @@ pub fn run_panel<D: Desk, O: Sink, E: Sink>(
         × IsRefusedKnown a (D.bytes desk.old) line
         × Gains (E.written err.old) (E.written err.new)
         (E.faults err.old) (E.faults err.new) line }
-    ensures read_fault { result ≡ Status.ReadFault → (a : Asking)
+    ensures read_fault { result ≡ Status.ReadFault → (a : Asking) × (line : List ℕ)
         × (asking_in (map string_bytes words.now.items) ≡ Some a)
-        × HasRisen (D.faults desk.old a.file) (D.faults desk.new a.file)
+        × IsUnread a (D.bytes desk.old) (D.faults desk.old) (D.faults desk.new) line
         × Gains (E.written err.old) (E.written err.new)
-        (E.faults err.old) (E.faults err.new) (unread_line a.file) }
+        (E.faults err.old) (E.faults err.new) line }
     ensures no_memory { result ≡ Status.NoMemory → Gains (E.written err.old) (E.written err.new)
         (E.faults err.old) (E.faults err.new) memory_line }
 
@@ -79,7 +80,7 @@ pub fn run_panel<D: Desk, O: Sink, E: Sink>(
         tell(err, USAGE);
         return Status::Usage;
     };
-    match answer_file(alloc, desk, &question) {
+    match answer_files(alloc, desk, &question) {
         Ok(answer) => finish(&answer, out, err),
         Err(Cause::Read(line)) => {
             tell(err, line.as_slice());

@@ -1,5 +1,6 @@
 //! Tests of the call over files in memory: each ending with its texts, malformed frames, small rooms.
-use crate::running::HEADER;
+use crate::bounds::{DEMAND_HEADER, DEMANDS, FILES};
+use crate::running::{HEADER, USAGE};
 use rp_panel_call::{Ending, answer_panel};
 use std::alloc::Global;
 use std::process::Abort;
@@ -118,9 +119,6 @@ const LONG: &str = "household,year,p_a,q_a\nA,1990,3,2\n";
 
 const TOLD: &str = "rp-panel: column year is left out\n";
 
-const USAGE: &str =
-    "usage: rp-panel LONG [--id NAME] [--keep NAME].. [--pump] [--power DRAWS SEED] [--wide]\n";
-
 /// Words and the parts that are given of the file `l.csv`, the number that a call ends with, and what is told.
 type Row<'a> = (&'a [u8], &'a [&'a str], i32, &'a str);
 
@@ -192,4 +190,47 @@ fn a_table_in_large_and_in_small_rooms(rt: HostRuntime) -> Result<(), Fail> {
     ends_within(&rt, alloc, &call, 1024, 0, wanted.as_str(), TOLD)?;
     ends_within(&rt, alloc, &call, 10, 0, wanted.as_str(), TOLD)?;
     ends_within(&rt, alloc, &call, 0, 0, wanted.as_str(), TOLD)
+}
+
+/// A call that asks bounds at the prices of a second file, over these files.
+fn bounds_over<'a>(names: &'a [u8], texts: &'a [&'a str]) -> Call<'a> {
+    Call {
+        words: b"l.csv\0--demand\0n.csv\0",
+        names,
+        texts,
+    }
+}
+
+#[test]
+fn bounds_over_files_in_either_order(rt: HostRuntime) -> Result<(), Fail> {
+    let alloc = rt.alloc();
+    let (long, new) = FILES;
+    let wanted = format!(in alloc; "{DEMAND_HEADER}{DEMANDS}")?;
+    let told = "rp-panel: column town is left out\n";
+    let one = bounds_over(b"l.csv\0n.csv\0", &[long, new]);
+    ends_within(&rt, alloc, &one, 1024, 0, wanted.as_str(), told)?;
+    let other = bounds_over(b"n.csv\0l.csv\0", &[new, long]);
+    ends_within(&rt, alloc, &other, 1024, 0, wanted.as_str(), told)
+}
+
+/// The first file that is not given is told, and that before any is refused.
+#[test]
+fn bounds_without_a_file(rt: HostRuntime) -> Result<(), Fail> {
+    let alloc = rt.alloc();
+    let (long, new) = FILES;
+    let no_new = bounds_over(b"l.csv\0", &[long]);
+    let told = "rp-panel: n.csv: read failed\n";
+    ends_within(&rt, alloc, &no_new, 256, 3, "", told)?;
+    let none_good = bounds_over(b"l.csv\0", &["household\nA\n"]);
+    ends_within(&rt, alloc, &none_good, 256, 3, "", told)?;
+    let no_long = bounds_over(b"n.csv\0", &[new]);
+    let told = "rp-panel: l.csv: read failed\n";
+    ends_within(&rt, alloc, &no_long, 256, 3, "", told)
+}
+
+#[test]
+fn bounds_with_more_files_than_the_words_name(rt: HostRuntime) -> Result<(), Fail> {
+    let (long, new) = FILES;
+    let call = bounds_over(b"l.csv\0n.csv\0m.csv\0", &[long, new, new]);
+    ends_within(&rt, rt.alloc(), &call, 256, 8, "", "")
 }

@@ -1,7 +1,9 @@
 //! Tests of `run_panel` and of the call of panels: words, files that are refused or fail, columns that are left out, what
-//! `--wide` fills, and each ending.
+//! `--wide` fills, bounds at new prices, and each ending.
 #![tactic(auto)]
 
+#[cfg(test)]
+mod bounds;
 #[cfg(test)]
 mod calls;
 #[cfg(test)]

@@ -9,6 +9,11 @@ pub(crate) const HEADER: &str =
     "household,observations,goods,garp,efficiency,efficiency_floor,attained,homothetic,\
     quasilinear,pump,pump_floor,power,fault,record,column";
 
+/// What is told of words that are none that the program takes.
+pub(crate) const USAGE: &str =
+    "usage: rp-panel LONG [--id NAME] [--keep NAME].. [--pump] [--power DRAWS SEED] [--wide]\n\
+    \x20      rp-panel LONG [--id NAME] [--keep NAME].. (--demand | --welfare) NEW\n";
+
 /// The room of each sink, in bytes.
 const ROOM: u64 = 65_536;
 
@@ -45,13 +50,21 @@ fn owned_words(alloc: Global, words: &[&str]) -> Result<Vec<String>, Fail> {
     Ok(all)
 }
 
-/// The file `l.csv` of this text.
-fn long_file(alloc: Global, text: &str) -> Result<Vec<MemFile>, Fail> {
-    let mut files = Vec::new(alloc);
-    files.push(MemFile {
-        name: String::from_str(alloc, "l.csv")?,
+/// A file of that name and this text.
+fn file(alloc: Global, name: &str, text: &str) -> Result<MemFile, Fail> {
+    Ok(MemFile {
+        name: String::from_str(alloc, name)?,
         bytes: Vec::from_slice(alloc, text.as_bytes())?,
-    })?;
+    })
+}
+
+/// The file `l.csv` of the first text, and `n.csv` of the second, where there is one.
+fn files_with(alloc: Global, text: &str, new: Option<&str>) -> Result<Vec<MemFile>, Fail> {
+    let mut files = Vec::new(alloc);
+    files.push(file(alloc, "l.csv", text)?)?;
+    if let Some(new) = new {
+        files.push(file(alloc, "n.csv", new)?)?;
+    }
     Ok(files)
 }
 
@@ -62,9 +75,20 @@ pub(crate) fn run_failing(
     text: &str,
     fails: Failures<'_>,
 ) -> Result<Ended, Fail> {
+    run_beside(alloc, words, text, None, fails)
+}
+
+/// The same with a file `n.csv`, where there is one.
+pub(crate) fn run_beside(
+    alloc: Global,
+    words: &[&str],
+    text: &str,
+    new: Option<&str>,
+    fails: Failures<'_>,
+) -> Result<Ended, Fail> {
     let all = owned_words(alloc, words)?;
     let mut desk = MemDesk::new(
-        long_file(alloc, text)?,
+        files_with(alloc, text, new)?,
         Vec::from_slice(alloc, fails.reads)?,
     );
     let mut out = MemSink::new(alloc, ROOM, Vec::from_slice(alloc, fails.writes)?)?;

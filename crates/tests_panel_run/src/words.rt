@@ -1,12 +1,9 @@
 //! Tests of the words: those that are refused, and what the others ask.
-use crate::running::{ends, run_over, writes};
+use crate::running::{USAGE, ends, run_over, writes};
 use rp_panel_run::Status;
 use std::alloc::Global;
 use std::process::Abort;
 use std::test::Fail;
-
-const USAGE: &str =
-    "usage: rp-panel LONG [--id NAME] [--keep NAME].. [--pump] [--power DRAWS SEED] [--wide]\n";
 
 /// Words that are none that the program takes.
 const REFUSED: &[&[&str]] = &[
@@ -34,6 +31,18 @@ const REFUSED: &[&[&str]] = &[
     &["l.csv", "--power", "1", "x"],
     &["l.csv", "--power", "1", "18446744073709551616"],
     &["l.csv", "--power", "1", "1", "--power", "1", "1"],
+    &["l.csv", "--demand"],
+    &["l.csv", "--demand", ""],
+    &["l.csv", "--welfare", "-n.csv"],
+    &["--demand", "n.csv", "l.csv"],
+    &["l.csv", "--demand", "n.csv", "--demand", "n.csv"],
+    &["l.csv", "--demand", "n.csv", "--welfare", "n.csv"],
+    &["l.csv", "--pump", "--demand", "n.csv"],
+    &["l.csv", "--demand", "n.csv", "--pump"],
+    &["l.csv", "--power", "1", "1", "--welfare", "n.csv"],
+    &["l.csv", "--welfare", "n.csv", "--power", "1", "1"],
+    &["l.csv", "--wide", "--demand", "n.csv"],
+    &["l.csv", "--demand", "n.csv", "--wide"],
 ];
 
 /// A household whose two purchases contradict each other: each bundle cost 5 where the other would have cost 4.

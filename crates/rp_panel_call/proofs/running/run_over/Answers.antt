@@ -2,7 +2,7 @@ use Rattle.std.proofs.Common.{◌≡◌, map, string_bytes, arith}
 use Rattle.rp_outside.specs.NamedFile.{named_bytes}
 use Rattle.rp_panel_run.specs.Questions.{asking_in}
 use Rattle.rp_panel_run.specs.declared.status.Status.TheVariants.{NoMemory}
-use Rattle.rp_panel_call.proofs.RunFacts.{ended_run}
+use Rattle.rp_panel_call.proofs.RunFacts.{ended_run, unread_risen}
 use Rattle.rp_panel_call.proofs.running.run_over.Goals as goal
 
 pub returns : goal.returns
@@ -22,5 +22,5 @@ returns c =
       cut_short = λ is. (run.ensures.cut_short is).6;
       silent = run.ensures.silent;
       refused = run.ensures.refused;
-      read_fault = λ is. (run.ensures.read_fault is).2;
+      read_fault = λ is. (let why = run.ensures.read_fault is in unread_risen why.0 _ why.1 why.3);
     }))
