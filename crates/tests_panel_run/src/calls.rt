@@ -207,9 +207,11 @@ fn bounds_over_files_in_either_order(rt: HostRuntime) -> Result<(), Fail> {
     let (long, new) = FILES;
     let wanted = format!(in alloc; "{DEMAND_HEADER}{DEMANDS}")?;
     let told = "rp-panel: column town is left out\n";
-    let one = bounds_over(b"l.csv\0n.csv\0", &[long, new]);
+    let texts = [long, new];
+    let one = bounds_over(b"l.csv\0n.csv\0", &texts);
     ends_within(&rt, alloc, &one, 1024, 0, wanted.as_str(), told)?;
-    let other = bounds_over(b"n.csv\0l.csv\0", &[new, long]);
+    let turned = [new, long];
+    let other = bounds_over(b"n.csv\0l.csv\0", &turned);
     ends_within(&rt, alloc, &other, 1024, 0, wanted.as_str(), told)
 }
 
@@ -217,13 +219,14 @@ fn bounds_over_files_in_either_order(rt: HostRuntime) -> Result<(), Fail> {
 #[test]
 fn bounds_without_a_file(rt: HostRuntime) -> Result<(), Fail> {
     let alloc = rt.alloc();
-    let (long, new) = FILES;
-    let no_new = bounds_over(b"l.csv\0", &[long]);
     let told = "rp-panel: n.csv: read failed\n";
-    ends_within(&rt, alloc, &no_new, 256, 3, "", told)?;
-    let none_good = bounds_over(b"l.csv\0", &["household\nA\n"]);
-    ends_within(&rt, alloc, &none_good, 256, 3, "", told)?;
-    let no_long = bounds_over(b"n.csv\0", &[new]);
+    for long in [FILES.0, "household\nA\n"] {
+        let texts = [long];
+        let no_new = bounds_over(b"l.csv\0", &texts);
+        ends_within(&rt, alloc, &no_new, 256, 3, "", told)?;
+    }
+    let texts = [FILES.1];
+    let no_long = bounds_over(b"n.csv\0", &texts);
     let told = "rp-panel: l.csv: read failed\n";
     ends_within(&rt, alloc, &no_long, 256, 3, "", told)
 }
@@ -231,6 +234,7 @@ fn bounds_without_a_file(rt: HostRuntime) -> Result<(), Fail> {
 #[test]
 fn bounds_with_more_files_than_the_words_name(rt: HostRuntime) -> Result<(), Fail> {
     let (long, new) = FILES;
-    let call = bounds_over(b"l.csv\0n.csv\0m.csv\0", &[long, new, new]);
+    let texts = [long, new, new];
+    let call = bounds_over(b"l.csv\0n.csv\0m.csv\0", &texts);
     ends_within(&rt, rt.alloc(), &call, 256, 8, "", "")
 }
