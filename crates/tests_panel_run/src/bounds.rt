@@ -1,4 +1,5 @@
 //! Tests of bounds at the new prices of a second file: what is printed, and what of the two files is refused or fails.
+use crate::files::file_of_size;
 use crate::running::{CALM, Ended, Failures, assert_ended, run_beside};
 use rp_panel_run::Status;
 use std::alloc::Global;
@@ -171,24 +172,16 @@ fn a_write_that_fails(rt: HostRuntime) -> Result<(), Fail> {
     ends(rt.alloc(), files, fails, Status::WriteFault, told)
 }
 
-/// New prices of so many bytes: one record, and empty lines.
-fn prices_of_size(alloc: Global, size: usize) -> Result<String, Fail> {
-    let mut bytes = vec![in alloc; b'\n'; size]?;
-    let front = FILES.1.len();
-    bytes[..front].copy_from_slice(FILES.1.as_bytes());
-    Ok(String::from_utf8(bytes)?)
-}
-
 #[test]
 fn as_many_bytes_as_the_limit(rt: HostRuntime) -> Result<(), Fail> {
-    let new = prices_of_size(rt.alloc(), 4_194_304)?;
+    let new = file_of_size(rt.alloc(), FILES.1, 4_194_304)?;
     let files = (FILES.0, new.as_str());
     writes(rt.alloc(), ASKED, files, (DEMAND_HEADER, DEMANDS), TOLD)
 }
 
 #[test]
 fn one_byte_more_than_the_limit(rt: HostRuntime) -> Result<(), Fail> {
-    let new = prices_of_size(rt.alloc(), 4_194_305)?;
+    let new = file_of_size(rt.alloc(), FILES.1, 4_194_305)?;
     let files = (FILES.0, Some(new.as_str()));
     let told = "rp-panel: n.csv: TooLong\n";
     ends(rt.alloc(), files, CALM, Status::Refused, told)

@@ -51,23 +51,23 @@ const ONE: &str = "household,p_a,q_a\nA,3,2\n";
 
 const ROW: &str = "A,1,1,holds,1,1.000000,yes,holds,holds,,,,,,\n";
 
-/// A file of so many bytes: one household, and empty lines.
-fn file_of_size(alloc: Global, size: usize) -> Result<String, Fail> {
+/// A file of so many bytes: these records, and empty lines.
+pub(crate) fn file_of_size(alloc: Global, records: &str, size: usize) -> Result<String, Fail> {
     let mut bytes = vec![in alloc; b'\n'; size]?;
-    let front = ONE.len().min(size);
-    bytes[..front].copy_from_slice(&ONE.as_bytes()[..front]);
+    let front = records.len().min(size);
+    bytes[..front].copy_from_slice(&records.as_bytes()[..front]);
     Ok(String::from_utf8(bytes)?)
 }
 
 #[test]
 fn as_many_bytes_as_the_limit(rt: HostRuntime) -> Result<(), Fail> {
-    let text = file_of_size(rt.alloc(), 67_108_864)?;
+    let text = file_of_size(rt.alloc(), ONE, 67_108_864)?;
     writes(rt.alloc(), PLAIN, text.as_str(), "", ROW, "")
 }
 
 #[test]
 fn one_byte_more_than_the_limit(rt: HostRuntime) -> Result<(), Fail> {
-    let text = file_of_size(rt.alloc(), 67_108_865)?;
+    let text = file_of_size(rt.alloc(), ONE, 67_108_865)?;
     let line = "rp-panel: l.csv: TooLong\n";
     ends(rt.alloc(), PLAIN, text.as_str(), Status::Refused, "", line)
 }
