@@ -93,6 +93,11 @@ if (nzchar(released)) {
 # A folder of UTF-8 letters, made by the shell, whatever the locale of this session is.
 odd <- paste0(room, "/M\\303\\244rz und \\303\\251t\\303\\251")
 make <- paste0("d=$(printf '", odd, "') && mkdir \"$d\" && cp ", shQuote(Sys.getenv("RP_EXEC")), " \"$d/rp\"")
+# The program of panels stands beside it, as in a release.
+stands <- dirname(Sys.getenv("RP_EXEC"))
+panel_program <- c(Sys.getenv("RP_PANEL"), file.path(stands, "rp-panel"), file.path(dirname(dirname(stands)), "rp_panel_program", "out", "rp_panel_program"))
+panel_program <- panel_program[nzchar(panel_program) & file.exists(panel_program)]
+if (length(panel_program)) make <- paste0(make, " && cp ", shQuote(panel_program[1]), " \"$d/rp-panel\"")
 if (nzchar(shared)) make <- paste0(make, " && cp ", shQuote(Sys.getenv("RP_TEST_LIBRARY")), " \"$d/librp.so\"")
 if (system(make) != 0) good <- FALSE
 # R's check ran all of them in a folder of plain letters, in the locale of this session.
