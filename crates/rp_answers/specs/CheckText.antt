@@ -41,6 +41,7 @@ reason_name reason.Dual = codes "Dual"
 reason_name reason.Units = codes "Units"
 reason_name reason.Irrational = codes "Irrational"
 reason_name reason.Levels = codes "Levels"
+reason_name reason.Steps = codes "Steps"
 
 -- how many values the items leave out, cut off at 2^32 - 1
 abbrev pub withheld_of : List Item → ℕ

@@ -140,5 +140,6 @@ fn name_of(reason: Reason) -> &'static [u8]
         Reason::Units => b"Units",
         Reason::Irrational => b"Irrational",
         Reason::Levels => b"Levels",
+        Reason::Steps => b"Steps",
     }
 }

@@ -1,4 +1,7 @@
 pub mod ShareLemmas
 pub mod OneFinding
 pub mod TypeLemmas
+pub mod ToCome
+pub mod MetFronts
 pub mod TypeSearch
+pub mod InParts

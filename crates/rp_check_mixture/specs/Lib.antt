@@ -1,1 +1,2 @@
 pub mod InnerSearch
+pub mod LightFronts

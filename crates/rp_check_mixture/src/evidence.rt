@@ -1,10 +1,11 @@
 //! Mixtures of kinds, and weights of cells that show that there is none.
-ghost use Rattle.std.specs.Prelude.{◌≡◌, ◌*◌, ◌<◌, ◌≤◌, All, [], ◌∷◌, length};
+ghost use Rattle.std.specs.Prelude.{◌≡◌, ◌*◌, ◌<◌, ◌≤◌, ◌↔◌, ℕ, All, IsTrue, List, [], ◌∷◌};
+ghost use Rattle.std.specs.Prelude.{length};
 ghost use Rattle.rp_evidence.specs.Clauses.{FirstUnless, InOrder, Unless};
 ghost use Rattle.rp_farkas.specs.Limits.{FitsEvidence};
-ghost use Rattle.rp_patch.specs.KindFailure.{EvidenceFailsOf, MixtureFailsOf};
+ghost use Rattle.rp_patch.specs.KindFailure.{EvidenceFailsOf, HasFitNumbers, MixtureFailsOf};
 ghost use Rattle.rp_patch.specs.KindFailure.{PartFailsOf, PartsFailOf, ViolationFailsOf};
-ghost use Rattle.rp_patch.specs.Kinds.{all_units_weight, weight_of, weight_using};
+ghost use Rattle.rp_patch.specs.Kinds.{all_units_weight, cells_weight, weight_of, weight_using};
 
 use crate::choosers::Choosers;
 use crate::shares::{check_numbers, comes_in_order};
@@ -96,22 +97,55 @@ fn check_mixture<C: Choosers>(choosers: &C, den: u64, shares: &[Share]) -> Resul
     check_exact_units(choosers, den, shares)
 }
 
-/// Checks that the shares have as much as the units weigh, and that this is less than the total.
-fn check_shortfall<C: Choosers>(
+/// Checks kinds of which no cell gets more than its units, and that there is a weight of each cell.
+pub fn check_partial_mixture<C: Choosers>(
     choosers: &C,
     den: u64,
     shares: &[Share],
     weights: &[u64],
 ) -> Result<(), Failure>
+    ensures { InOrder (
+        Unless (HasFitNumbers den shares.now weights.now) Reason.Number 0
+        ∷ PartsFailOf (C.kinds choosers.now) shares.now
+        ∷ Unless (length weights.now ≡ (C.kinds choosers.now).cells) Reason.Shape 0
+        ∷ FirstUnless (C.kinds choosers.now).cells
+        (λ i. weight_using (C.kinds choosers.now) shares.now i
+        ≤ den * (C.kinds choosers.now).units i) Reason.Units
+        ∷ []) result }
+{
+    check_numbers(den, shares, weights)?;
+    check_shares(choosers, shares)?;
+    if weights.len() != choosers.cells() as usize {
+        return fails(Reason::Shape, 0);
+    }
+    check_within_units(choosers, den, shares)
+}
+
+/// Checks that weights of the cells bound every mixture by less than the total: each kind weighs the denominator, as
+/// was found out before; the shares have as much as the units weigh; and that is less than the total.
+pub fn check_weights<C: Choosers>(
+    choosers: &C,
+    den: u64,
+    shares: &[Share],
+    weights: &[u64],
+    all_weigh: bool,
+) -> Result<(), Failure>
     requires shares { All (λ share. FitsEvidence share.weight) shares.now }
     requires one_each { length weights.now ≡ (C.kinds choosers.now).cells }
+    requires weighed { IsTrue all_weigh ↔ ((kind : List ℕ) → (C.kinds choosers.now).IsKind kind
+        → den ≤ cells_weight weights.now ((C.kinds choosers.now).used kind)) }
     ensures { InOrder (
-        Unless (weight_of shares.now ≡ all_units_weight (C.kinds choosers.now) weights.now)
+        Unless ((kind : List ℕ) → (C.kinds choosers.now).IsKind kind
+        → den ≤ cells_weight weights.now ((C.kinds choosers.now).used kind)) Reason.Dual 0
+        ∷ Unless (weight_of shares.now ≡ all_units_weight (C.kinds choosers.now) weights.now)
         Reason.Least 0
         ∷ Unless (weight_of shares.now < den * (C.kinds choosers.now).total)
         Reason.NotLess 0
         ∷ []) result }
 {
+    if !all_weigh {
+        return fails(Reason::Dual, 0);
+    }
     let weight = weight_of_shares(shares);
     if weight != weight_of_units(choosers, weights) {
         return fails(Reason::Least, 0);
@@ -131,16 +165,14 @@ fn check_no_mixture<C: Choosers>(
 ) -> Result<(), Failure>
     ensures { ViolationFailsOf (C.kinds choosers.now) den shares.now weights.now result }
 {
-    check_numbers(den, shares, weights)?;
-    check_shares(choosers, shares)?;
-    if weights.len() != choosers.cells() as usize {
-        return fails(Reason::Shape, 0);
-    }
-    check_within_units(choosers, den, shares)?;
-    if !choosers.all_weigh(den, weights) {
-        return fails(Reason::Dual, 0);
-    }
-    check_shortfall(choosers, den, shares, weights)
+    check_partial_mixture(choosers, den, shares, weights)?;
+    check_weights(
+        choosers,
+        den,
+        shares,
+        weights,
+        choosers.all_weigh(den, weights),
+    )
 }
 
 /// Checks evidence on a mixture of the kinds. What is withheld claims nothing and is passed over.

@@ -11,6 +11,6 @@ mod rational;
 mod shares;
 mod types;
 
-pub use choices::check_choices;
+pub use choices::{check_choices, check_choices_within};
 pub use choosers::Choosers;
 pub use evidence::check_evidence;

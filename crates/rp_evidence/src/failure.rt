@@ -20,6 +20,7 @@ pub enum Reason {
     Units,
     Irrational,
     Levels,
+    Steps,
 }
 
 /// What an item of a certificate fails first: the reason, and the place, which is counted from 1; 0 stands for the

@@ -6,7 +6,7 @@ use Rattle.std.specs.Prelude.{codes, length, slice_index, Option, None, Some, Re
 use Rattle.std.specs.Option.{option_map, option_or}
 use Rattle.std.specs.Result.{result_err}
 use Rattle.rp_num.specs.Below.{any_below, first_of, first_there, listed}
-use Rattle.rp_limits.specs.declared.patch.TheConstants.{PLACES}
+use Rattle.rp_limits.specs.declared.menu.TheConstants.{CELLS}
 use Rattle.rp_sheet.specs.ChoiceCounts.{column_named}
 use Rattle.rp_forms.specs.Columns.{role_at}
 use Rattle.rp_sheet.specs.Fields.{RecordFaults, count_stage, fault_in_record, field_at, figures_of, row_at, rows_in}
@@ -127,7 +127,7 @@ menus_stage menu_rows =
 unfoldable pub cells_stage : List MenuRow → Option MenuFault
 cells_stage menu_rows =
     first_of (length menu_rows)
-    (λ t. if nat_lt PLACES (length (cells_below menu_rows (t + 1))) then Some (fault.TooManyCells (number_of t))
+    (λ t. if nat_lt CELLS (length (cells_below menu_rows (t + 1))) then Some (fault.TooManyCells (number_of t))
     else None)
 
 -- the first fault of a sheet with these headers: the headers in order, a missing column, the number of records, the

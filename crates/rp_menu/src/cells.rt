@@ -10,7 +10,7 @@ ghost use Rattle.rp_menu.specs.InnerCells.{is_seat};
 use crate::MenuFault;
 use crate::menu_row::MenuRow;
 use rp_forms::number_of;
-use rp_limits::patch::PLACES;
+use rp_limits::menu::CELLS;
 use rp_limits::table::{CHOICES, LARGEST};
 use rp_num::NoMemory;
 use std::alloc::Global;
@@ -122,7 +122,7 @@ pub fn tally_of(alloc: Global, menu_rows: &[MenuRow]) -> Result<Tally, MenuFault
     let mut cells = Vec::new(alloc);
     for t in 0..menu_rows.len() {
         count(&mut menus, &mut cells, &menu_rows[t])?;
-        if cells.len() > PLACES as usize {
+        if cells.len() > CELLS as usize {
             return Err(MenuFault::TooManyCells { row: number_of(t) });
         }
     }

@@ -3,8 +3,7 @@ ghost use Rattle.std.specs.Prelude.{◌≡◌, ◌<◌, ◌≤◌, length, slice
 ghost use Rattle.rp_patch.specs.Apportionment.{AreGrouped};
 ghost use Rattle.rp_menu.specs.MenuLists.{IsMenuList};
 
-use rp_limits::menu::LETTERS;
-use rp_limits::patch::PLACES;
+use rp_limits::menu::{CELLS, LETTERS};
 use std::marker::Model;
 
 /// The menus from which something was chosen, by the first record of each, and the cells on them: a menu with a letter
@@ -86,7 +85,7 @@ impl Menus {
     /// How many menus there are.
     pub fn count(&self) -> u32
         ensures exact { result ≡ length self.now.menus }
-        ensures few { result ≤ PLACES }
+        ensures few { result ≤ CELLS }
     {
         self.menus.len() as u32
     }
@@ -102,7 +101,7 @@ impl Menus {
     /// How many cells there are.
     pub fn cells(&self) -> u32
         ensures exact { result ≡ length self.now.groups }
-        ensures few { result ≤ PLACES }
+        ensures few { result ≤ CELLS }
     {
         self.groups.len() as u32
     }
