@@ -40,11 +40,18 @@ same({d.garp, d.cycle, d.lower}, {false, [1 2 1], [NaN NaN]}, 'demand where the 
 v = rp_analyse(p, q);
 same({v.garp, v.ranks, v.efficiency, v.ccei, v.afriat}, {true, [1; 1], '1', 1, true}, 'a table that holds');
 d = rp_demand(p, q, [2 2], 6);
-same({d.lower, d.upper, d.inner, d.below, d.strict}, {[1 1], [2 2], [2 1], [1 2], zeros(1, 0)}, 'demand');
+same({d.lower, d.upper, d.inner, d.below, d.strict, d.wide}, {[1 1], [2 2], [2 1], [1 2], zeros(1, 0), false(2)}, 'demand');
 w = rp_welfare(p, q, [2 2]);
-same({w.lower, w.upper, w.at}, {[4; 4], [6; 6], [1; 2]}, 'welfare');
+same({w.lower, w.upper, w.at, w.wide}, {[4; 4], [6; 6], [1; 2], [false; false]}, 'welfare');
 w = rp_welfare(p, q, [0.5 0.5; 2 2]);
 same({w(1).lower, w(1).upper, w(2).lower}, {[1; 1], [1.5; 1.5], [4; 4]}, 'welfare in money');
+
+% What rp withholds and its wider edition gives is marked.
+[p, q] = deal([4194304 1; 1 3145727; 1 4194304], [2097151 4194304; 1747627 2796203; 4194304 2097151]);
+[v, w] = deal(rp_analyse(p, q), rp_analyse(p, q, 'Wide', false));
+same({islogical(v.homothetic), v.wide, w.homothetic, w.wide, fieldnames(w.reasons)}, {true, {'homothetic'}, NaN, {}, {'homothetic'}}, 'the wider edition');
+t = struct('home', {{'u'; 'u'; 'u'}}, 'p_a', p(:, 1), 'p_b', p(:, 2), 'q_a', q(:, 1), 'q_b', q(:, 2));
+same({rp_panel(t, 'home').homothetic, rp_panel(t, 'home', 'Wide', false).homothetic}, {v.homothetic, NaN}, 'the wider edition in a panel');
 
 % Levels of the observations' own.
 levels = rp_analyse([1 2; 2 1], [1 2; 2 1], 'Levels', [799 1000]);
