@@ -14,10 +14,14 @@ mod forgeries;
 #[cfg(test)]
 mod limits;
 #[cfg(test)]
+mod many;
+#[cfg(test)]
 mod mixtures;
 #[cfg(test)]
 mod reports;
 #[cfg(test)]
 mod rows;
+#[cfg(test)]
+mod steps;
 #[cfg(test)]
 mod told;
