@@ -4,4 +4,5 @@ pub mod InnerSets
 pub mod ItemFailure
 pub mod LevelsFailure
 pub mod RandomCheckVerdict
+pub mod RandomCheckWithin
 pub mod WelfareFailure

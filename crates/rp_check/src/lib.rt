@@ -11,6 +11,6 @@ mod verdict;
 mod welfare;
 
 pub use certificate::check;
-pub use random::check_random;
+pub use random::{check_random, check_random_within};
 pub use rp_evidence::Reason;
 pub use verdict::Verdict;

@@ -1,2 +1,3 @@
 pub mod InnerSearch
 pub mod LightFronts
+pub mod RandomWithin

@@ -1,17 +1,17 @@
 -- What a search for a rational type that weighs too little goes through, and when it is given up (branch and bound,
 -- Land and Doig 1960; rational types after McFadden and Richter 1990).
 use Rattle.std.specs.Prelude.{◌≢◌, ◌<◌, ◌≤◌, ℕ, List, Option, Some, None, All, AllPairs, length}
-use Rattle.rp_evidence.specs.declared.random.RandomPart.{RandomPart}
-use Rattle.rp_evidence.specs.declared.random.RandomPart.TheVariants.{Mixture, Violated, Wide}
 use Rattle.rp_patch.specs.Kinds.{cells_weight}
 use Rattle.rp_patch.specs.PartialTypes.{Before, Begins, IsRationalBelow}
 use Rattle.rp_patch.specs.Patches.{PatchList}
 use Rattle.rp_patch.specs.Types.{IsRationalType, IsType}
 
--- A patch of some of the first budgets each, but not of all, without a violation among these: some type that begins
--- with them weighs less than `least`, rational or not, and each rational type that comes before them weighs enough.
+-- A patch of each of the first budgets, of one at least but not of all, without a violation among these: some type that
+-- begins with them weighs less than `least`, rational or not, and each rational type that comes before them weighs
+-- enough.
 pub record IsLightFront (p : PatchList) (weights : List ℕ) (least : ℕ) (front : List ℕ)
     : Type 0 where
+  pub some : 0 < length front
   pub short : length front < p.budgets
   pub rational : IsRationalBelow p front
   pub lighter : (type : List ℕ) × IsType p type × Begins type front
@@ -29,9 +29,3 @@ HasMoreLightFrontsThan p weights least steps =
 abbrev pub PassesLimit : PatchList → List ℕ → ℕ → Option ℕ → Type 0
 PassesLimit p weights least None = ⊥
 PassesLimit p weights least (Some steps) = HasMoreLightFrontsThan p weights least steps
-
--- Of evidence on random choices only weights of the patches are searched for a type that is too light.
-abbrev pub PassesSteps : PatchList → RandomPart → ℕ → Type 0
-PassesSteps p (Mixture den parts) steps = ⊥
-PassesSteps p (Violated den parts weights) steps = HasMoreLightFrontsThan p weights den steps
-PassesSteps p (Wide step) steps = ⊥

@@ -74,17 +74,25 @@ fn write_to_come(patches: &Patches, weights: &[u64], to_come: &mut [u128])
     }
 }
 
-/// Whether a limit allows no more than were made.
-fn is_reached(limit: Option<u64>, made: u64) -> bool
-    ensures { result ≡ true → limit ≡ Some made }
+/// One more than were counted, or none where a limit allows no more. Without a limit none is counted.
+fn one_more(limit: Option<u64>, counted: u64) -> Option<u64>
+    ensures more { IfSome result (λ more. IfSome limit (λ steps.
+        (more ≡ counted + 1) × (more ≤ steps))) }
+    ensures reached { IfNone result (IsSomeAnd limit (λ steps. steps ≤ counted)) }
 {
     match limit {
-        Some(steps) => made == steps,
-        None => false,
+        Some(steps) => {
+            if counted < steps {
+                Some(counted + 1)
+            } else {
+                None
+            }
+        }
+        None => Some(counted),
     }
 }
 
-/// Whether every rational type weighs at least `least`; none where that takes more partial types than a limit allows.
+/// Whether every rational type weighs at least `least`; none where there are more light fronts than a limit allows.
 /// `to_come` has at each budget what patches weigh at least on those that come after it. `partials` is room for the
 /// partial types on the way: the one at place d has a patch of each of the first d budgets.
 fn all_weigh_by(
@@ -104,9 +112,10 @@ fn all_weigh_by(
     ensures decided { IfSome result (λ all. IsTrue all ↔ ((type : List ℕ)
         → IsRationalType patches.now type → least ≤ cells_weight weights.now type)) }
     ensures given_up { IfNone result (PassesLimit patches.now weights.now least limit) }
+    ensures within { IfSome result (λ all. ¬ PassesLimit patches.now weights.now least limit) }
 {
     prove!(patches.budgets() <= BUDGETS);
-    let mut made: u64 = 0;
+    let mut made = 0;
     let mut depth = 0;
     let mut i = 0;
     partials[0] = PartialType::new(patches);
@@ -125,10 +134,11 @@ fn all_weigh_by(
                         i += 1;
                     } else if longer.taken == patches.budgets() {
                         return Some(false);
-                    } else if is_reached(limit, made) {
-                        return None;
                     } else {
-                        made = made.saturating_add(1);
+                        match one_more(limit, made) {
+                            None => return None,
+                            Some(more) => made = more,
+                        }
                         depth += 1;
                         partials[depth] = longer;
                         i = 0;
@@ -140,8 +150,8 @@ fn all_weigh_by(
     }
 }
 
-/// Whether every rational type weighs at least `least`; none where the search goes through more partial types than a
-/// limit allows, each without a violation and light enough for some type to weigh less.
+/// Whether every rational type weighs at least `least`; none just where there are more light fronts than a limit
+/// allows: these are the partial types that the search goes through.
 pub fn all_weigh_within(
     patches: &Patches,
     least: u64,
@@ -152,6 +162,7 @@ pub fn all_weigh_within(
     ensures decided { IfSome result (λ all. IsTrue all ↔ ((type : List ℕ)
         → IsRationalType patches.now type → least ≤ cells_weight weights.now type)) }
     ensures given_up { IfNone result (PassesLimit patches.now weights.now least limit) }
+    ensures within { IfSome result (λ all. ¬ PassesLimit patches.now weights.now least limit) }
 {
     let mut to_come = [0; BUDGETS as usize];
     write_to_come(patches, weights, &mut to_come);

@@ -1,6 +1,6 @@
 //! The search for rational types: a patch of one budget more is taken at each step, and a partial type with a violation
 //! is left, since a violation among some budgets stays one when budgets are added.
-ghost use Rattle.std.specs.Prelude.{◌≡◌, ◌<◌, ◌≤◌, ◌+◌, ◌⊎◌, ◌↔◌, ◌++◌, ◌∷◌, [], ℕ, true, false};
+ghost use Rattle.std.specs.Prelude.{◌≡◌, ◌≢◌, ◌<◌, ◌≤◌, ◌+◌, ◌⊎◌, ◌↔◌, ◌++◌, ◌∷◌, [], ℕ, true, false};
 ghost use Rattle.std.specs.Prelude.{IfNone, IfSome, List, length, pos, slice_index, ◌≤ℤ◌, ◌<ℤ◌};
 ghost use Rattle.rp_patch.specs.PartialTypes.{Begins, IsPartialType, IsRationalBelow, IsTaken};
 ghost use Rattle.rp_patch.specs.PartialTypes.{taken_in};
@@ -94,6 +94,8 @@ impl PartialType {
         ensures longer { IfSome result (λ part. taken_in part ≡ taken_in self.now ++ i ∷ []) }
         ensures excluded { IfNone result ((type : List ℕ) → IsRationalType patches.now type
             → ¬ Begins type (taken_in self.now ++ i ∷ [])) }
+        ensures unfit { IfNone result ((budget_at patches.now i ≢ self.now.taken)
+            ⊎ (¬ IsRationalBelow patches.now (taken_in self.now ++ i ∷ []))) }
     {
         if patches.budget_of(i) != self.taken {
             return None;
