@@ -1,5 +1,6 @@
 //! A stub: the search by generated types.
 #![tactic(auto)]
+
 ghost use Rattle.std.specs.Prelude.{◌≤◌, IfOk, Ok};
 ghost use Rattle.rp_check_mixture.specs.RandomWithin.{RandomFailsWithin};
 ghost use Rattle.rp_generated.specs.Withheld.{WithheldAt};

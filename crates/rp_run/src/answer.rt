@@ -40,8 +40,16 @@ pub(crate) fn answer_line<'a, P: Edition, D: Desk>(
 {
     match line.command {
         Command::Pairs => done(pairs_text(alloc, &load_table::<P, D>(alloc, desk, line)?)),
-        Command::Analyse => done(analysis_text::<P>(alloc, &load_table::<P, D>(alloc, desk, line)?, false)),
-        Command::Certify => done(analysis_text::<P>(alloc, &load_table::<P, D>(alloc, desk, line)?, true)),
+        Command::Analyse => done(analysis_text::<P>(
+            alloc,
+            &load_table::<P, D>(alloc, desk, line)?,
+            false,
+        )),
+        Command::Certify => done(analysis_text::<P>(
+            alloc,
+            &load_table::<P, D>(alloc, desk, line)?,
+            true,
+        )),
         Command::Check => {
             let (table, certificate) = load_table_certificate::<P, D>(alloc, desk, line)?;
             whole(check_answer(alloc, &table, &certificate))
@@ -63,7 +71,9 @@ pub(crate) fn answer_line<'a, P: Edition, D: Desk>(
             done(random_text(alloc, &patches, &types, line.arguments.json))
         }
         Command::CheckRandom => {
-            let (patches, types, certificate) = load_patches_certificate::<P, D>(alloc, desk, line)?;
+            let (patches, types, certificate) = load_patches_certificate::<P, D>(
+                alloc, desk, line,
+            )?;
             whole(check_random_answer(alloc, &patches, &types, &certificate))
         }
         Command::Patches => {
