@@ -15,3 +15,4 @@ pub mod RunLemmas
 pub mod SomeAnswer
 pub mod SomeCertificate
 pub mod TurnLemmas
+pub mod TypedLemmas
