@@ -116,7 +116,7 @@ module _ (input : RandomInput) (some : 1 ≤ input.budgets) (positive : (j : ℕ
       let low = some_chosen 0 (omega (arith, some)) in
       omega (arith, low.2, chosen_rising input 0 low.0 (omega arith) low.1)
 
-  pub are_grouped : n ≤ 48 → ((j : ℕ) → times_on input j < 2 ^ 36) → AreGrouped (budgets_of (all_chosen input)) (times_of (all_chosen input))
+  pub are_grouped : n ≤ 256 → ((j : ℕ) → times_on input j < 2 ^ 36) → AreGrouped (budgets_of (all_chosen input)) (times_of (all_chosen input))
   are_grouped few small = record {
     same = length_is ∙ sym (length-map (all_chosen input) (λ (one : Chosen). one.times));
     some = omega (arith, length_is, some_place);

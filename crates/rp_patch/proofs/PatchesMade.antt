@@ -8,8 +8,7 @@ use Rattle.rp_patch.specs.Apportionment.{AreFilled, HasShares}
 use Rattle.rp_patch.specs.Choices.{RandomInput}
 use Rattle.rp_patch.specs.InnerUnited.{AreUnited, SaysWhyNotShared}
 use Rattle.rp_patch.specs.Patches.{IsPatchList, PatchList, budget_at, no_patch, patch_at, units_at, units_on}
-use Rattle.rp_patch.specs.Units.{ArePatchesOf, HasUnits, SaysWhy, all_chosen, chosen_at, chosen_counts}
-use Rattle.rp_limits.specs.declared.patch.TheConstants.{PATCHES}
+use Rattle.rp_patch.specs.Units.{ArePatchesOf, HasUnits, SaysWhyWithin, all_chosen, chosen_at, chosen_counts}
 use Rattle.rp_patch.specs.declared.fault.PatchFault.{PatchFault}
 use Rattle.rp_patch.specs.declared.fault.PatchFault.TheVariants.{TooManyPatches, NeedUnit, NoMemory}
 use Rattle.rp_patch.specs.declared.chosen.Chosen.{Chosen}
@@ -61,7 +60,7 @@ module _ (input : RandomInput) (total : ℕ) (units : List ℕ) (each : length u
       let here : (if budget_at p i == j then units_at p i else 0) ≡ units_at p i = ap (λ b. if b then units_at p i else 0) (eq-eqb j j refl) in
       omega (arith, least, here, given_on filled j below)
 
-  pub is_patch_list : AreFilled (chosen_counts input) total (slice_index units) → 1 ≤ input.budgets → input.budgets ≤ 48 → n ≤ 48
+  pub is_patch_list : AreFilled (chosen_counts input) total (slice_index units) → 1 ≤ input.budgets → input.budgets ≤ 48 → n ≤ 256
       → 1 ≤ total → total ≤ 1000000000 → IsPatchList p
   is_patch_list filled some few few_patches some_units few_units = record {
     some_budgets = omega (arith, some, budgets_is);
@@ -93,8 +92,8 @@ united_by input chosen units read patches is same united =
     subst (λ xs. AreUnited xs units (length xs) patches) is (subst (λ us. AreUnited chosen us (length chosen) patches) same united)
 
 -- why there are no patches, where there are not too many and they have no units
-pub refused_units : (input : RandomInput) (asked : Option ℕ) (f : PatchFault) → length (all_chosen input) ≤ PATCHES
-    → SaysWhyNotShared (chosen_counts input) asked f → SaysWhy input asked f
-refused_units input asked (TooManyPatches j) few why = absurd why
-refused_units input asked (NeedUnit j) few why = (few, why.0, why.1)
-refused_units input asked NoMemory few why = why
+pub refused_units : (input : RandomInput) (asked : Option ℕ) (most : ℕ) (f : PatchFault) → length (all_chosen input) ≤ most
+    → SaysWhyNotShared (chosen_counts input) asked f → SaysWhyWithin input asked most f
+refused_units input asked most (TooManyPatches j) few why = absurd why
+refused_units input asked most (NeedUnit j) few why = (few, why.0, why.1)
+refused_units input asked most NoMemory few why = why

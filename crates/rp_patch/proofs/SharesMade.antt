@@ -104,7 +104,7 @@ module _ (g : GroupedCounts) (inside : (i : ℕ) → i < g.places → g.group i 
       by (inl l) = ap (λ (p : Portion). p.rounded_up) (shared.1 i (omega (arith, l, shared.0)))
       by (inr g) = ap (λ (p : Portion). p.rounded_up) (get_or_past portions i _ g)
 
-  pub are_whole : g.places ≤ 64 → total ≤ 1000000000 → AreWholeParts portions g.groups total
+  pub are_whole : g.places ≤ 256 → total ≤ 1000000000 → AreWholeParts portions g.groups total
   are_whole few small = record {
     few = omega (arith, few, shared.0);
     small = λ i within. omega (arith, whole_small i within, small);

@@ -23,8 +23,9 @@ tally_of signs choices j n =
     (λ i. (slice_index choices.budget i == j) && nat_lt 0 (slice_index choices.times i))
     (slice_index choices.times) n
 
--- What a fault says of the number of patches. Want of memory says nothing, and no other fault comes.
-abbrev pub SaysWhyChosen : RandomInput → PatchFault → Type 0
-SaysWhyChosen input (TooManyPatches j) = PassesPatchesAt input j
-SaysWhyChosen input (NeedUnit j) = ⊥
-SaysWhyChosen input NoMemory = Unit {0}
+-- What a fault says of the number of patches, which may be so many. Want of memory says nothing, and no other fault
+-- comes.
+abbrev pub SaysWhyChosen : RandomInput → ℕ → PatchFault → Type 0
+SaysWhyChosen input most (TooManyPatches j) = PassesPatchesAt input most j
+SaysWhyChosen input most (NeedUnit j) = ⊥
+SaysWhyChosen input most NoMemory = Unit {0}

@@ -2,7 +2,8 @@
 use Rattle.std.specs.Prelude.{◌≡◌, ℕ, ◌<◌, ◌≤◌, ◌==◌, ℤ, pos, List, [], length, slice_index_or, Option, if◌then◌else◌}
 use Rattle.rp_table.specs.Sums.{sum_below}
 use Rattle.rp_limits.specs.declared.table.TheConstants.{BUDGETS}
-use Rattle.rp_limits.specs.declared.patch.TheConstants.{PATCHES, UNITS}
+use Rattle.rp_limits.specs.declared.generated.TheConstants.{PATCHES}
+use Rattle.rp_limits.specs.declared.patch.TheConstants.{UNITS}
 use Rattle.rp_patch.specs.declared.patch_list.Patch.{Patch}
 
 -- The patches of so many budgets, the units of each budget, and the unit that was asked for.

@@ -69,17 +69,22 @@ pub record ArePatchesOf (input : RandomInput) (asked : Option ℕ) (p : PatchLis
   pub signs : (i : ℕ) → i < length p.patches → (patch_at p i).signs ≡ (chosen_at (all_chosen input) i).signs
   pub units : HasUnits input asked p
 
--- The number of patches passes its limit first at budget j.
-abbrev pub PassesPatchesAt : RandomInput → ℕ → Type 0
-PassesPatchesAt input j =
-    (j < input.budgets) × (length (chosen_below input j) ≤ PATCHES) × (PATCHES < length (chosen_below input (j + 1)))
+-- The number of patches passes what is the most first at budget j.
+abbrev pub PassesPatchesAt : RandomInput → ℕ → ℕ → Type 0
+PassesPatchesAt input most j =
+    (j < input.budgets) × (length (chosen_below input j) ≤ most) × (most < length (chosen_below input (j + 1)))
 
 -- The least common multiple of the numbers of choices passes its limit first at budget j.
 abbrev pub PassesUnitsAt : RandomInput → ℕ → Type 0
 PassesUnitsAt input j = PassesTotalAt (chosen_counts input) j
 
--- What each fault says. Want of memory says nothing.
+-- What each fault says where there may be so many patches at most. Want of memory says nothing.
+abbrev pub SaysWhyWithin : RandomInput → Option ℕ → ℕ → PatchFault → Type 0
+SaysWhyWithin input asked most (TooManyPatches j) = PassesPatchesAt input most j
+SaysWhyWithin input asked most (NeedUnit j) =
+    (length (all_chosen input) ≤ most) × (asked ≡ None) × PassesUnitsAt input j
+SaysWhyWithin input asked most NoMemory = Unit {0}
+
+-- What each fault says where all types are to be listed.
 abbrev pub SaysWhy : RandomInput → Option ℕ → PatchFault → Type 0
-SaysWhy input asked (TooManyPatches j) = PassesPatchesAt input j
-SaysWhy input asked (NeedUnit j) = (length (all_chosen input) ≤ PATCHES) × (asked ≡ None) × PassesUnitsAt input j
-SaysWhy input asked NoMemory = Unit {0}
+SaysWhy input asked = SaysWhyWithin input asked PATCHES

@@ -5,11 +5,11 @@ ghost use Rattle.indexmap.specs.IndexMap.{index_map_len};
 ghost use Rattle.rp_patch.specs.Choices.{AreChoicesFrom, random_input_of};
 ghost use Rattle.rp_patch.specs.InnerTallies.{SaysWhyChosen, tallied};
 ghost use Rattle.rp_patch.specs.Units.{all_chosen as chosen_in, chosen_as};
+ghost use Rattle.rp_limits.specs.declared.generated.TheConstants.{PATCHES};
 
 use crate::PatchFault;
 use crate::tally::{all_signs, tally_on};
 use indexmap::IndexMap;
-use rp_limits::patch::PATCHES;
 use rp_num::{NoMemory, Seq};
 use rp_table::{Budgets, Choices};
 use std::alloc::Global;
@@ -22,23 +22,25 @@ pub struct Chosen {
     pub times: u64,
 }
 
-/// All patches, by budget and then by the first choice that falls in them.
+/// All patches, at most so many, by budget and then by the first choice that falls in them.
 pub fn all_chosen(
     alloc: Global,
     budgets: &Budgets,
     choices: &Choices,
+    most: u32,
 ) -> Result<Vec<Chosen>, PatchFault>
-    requires { AreChoicesFrom budgets.now choices.now }
+    requires from { AreChoicesFrom budgets.now choices.now }
+    requires most { most ≤ PATCHES }
     ensures exact { IfOk result
         (λ chosen. chosen.items ≡ chosen_in (random_input_of budgets.now choices.now)) }
-    ensures few { IfOk result (λ chosen. length chosen.items ≤ PATCHES) }
-    ensures refused { IfErr result (SaysWhyChosen (random_input_of budgets.now choices.now)) }
+    ensures few { IfOk result (λ chosen. length chosen.items ≤ most) }
+    ensures refused { IfErr result (SaysWhyChosen (random_input_of budgets.now choices.now) most) }
 {
     let all = all_signs(alloc, budgets, choices)?;
     let mut chosen = Vec::new(alloc);
     for j in 0..budgets.count() {
         let tally = tally_on(alloc, choices, all.as_slice(), j)?;
-        if chosen.len() + tally.len() > PATCHES as usize {
+        if chosen.len() + tally.len() > most as usize {
             return Err(PatchFault::TooManyPatches { budget: j });
         }
         push_chosen(alloc, &mut chosen, &tally, j)?;

@@ -10,7 +10,7 @@ use thiserror::Error;
 /// Why choices have no patches within the limits. Budgets count from 0.
 #[derive(Clone, Copy, Debug, PartialEq, Eq, Error)]
 pub enum PatchFault {
-    /// On the budgets up to this one there are more patches than `PATCHES`.
+    /// On the budgets up to this one there are more patches than there may be.
     #[error("TooManyPatches")]
     TooManyPatches { budget: u32 },
     /// No unit was asked for, and the total that the budgets up to this one have in common is above `UNITS`.

@@ -5,19 +5,21 @@ ghost use Rattle.rp_patch.specs.Choices.{AreChoicesFrom, random_input_of};
 ghost use Rattle.rp_patch.specs.InnerUnited.{AreUnited, SaysWhyNotShared, budgets_of as budgets_of_all};
 ghost use Rattle.rp_patch.specs.InnerUnited.{counts_of, times_of as times_of_all};
 ghost use Rattle.rp_patch.specs.Patches.{IsPatchList};
-ghost use Rattle.rp_patch.specs.Units.{ArePatchesOf, SaysWhy};
+ghost use Rattle.rp_patch.specs.Units.{ArePatchesOf, SaysWhy, SaysWhyWithin};
+ghost use Rattle.rp_limits.specs.declared.generated.TheConstants as generated;
 ghost use Rattle.rp_limits.specs.declared.patch.TheConstants.{UNITS};
 
 use crate::apportionment::{Units, apportion};
 use crate::chosen::{Chosen, all_chosen};
 use crate::patch_list::Patch;
 use crate::{ApportionFault, PatchFault};
+use rp_limits::patch::PATCHES;
 use rp_num::{NoMemory, Seq};
 use rp_table::{Budgets, Choices};
 use std::alloc::Global;
 
-/// The patches that were chosen, by budget and then by the first choice that falls in them, and their units: exact
-/// where none are asked for, else that many on each budget, by largest remainders.
+/// The patches that were chosen, few enough that all types may be listed: by budget and then by the first choice that
+/// falls in them, and their units: exact where none are asked for, else that many on each budget, by largest remainders.
 pub fn patches(
     alloc: Global,
     budgets: &Budgets,
@@ -28,10 +30,31 @@ pub fn patches(
     requires unit { IfSome unit (λ n. (1 ≤ n) × (n ≤ UNITS)) }
     ensures exact { IfOk result (ArePatchesOf (random_input_of budgets.now choices.now) unit) }
     ensures valid { IfOk result IsPatchList }
+    ensures few { IfOk result (λ p. length p.patches ≤ PATCHES) }
     ensures refused { IfErr result (SaysWhy (random_input_of budgets.now choices.now) unit) }
 {
+    patches_within(alloc, budgets, choices, unit, PATCHES)
+}
+
+/// The patches that were chosen, where there are no more than so many, and their units.
+pub fn patches_within(
+    alloc: Global,
+    budgets: &Budgets,
+    choices: &Choices,
+    unit: Option<u32>,
+    most: u32,
+) -> Result<crate::patch_list::Patches, PatchFault>
+    requires from { AreChoicesFrom budgets.now choices.now }
+    requires unit { IfSome unit (λ n. (1 ≤ n) × (n ≤ UNITS)) }
+    requires most { most ≤ generated.PATCHES }
+    ensures exact { IfOk result (ArePatchesOf (random_input_of budgets.now choices.now) unit) }
+    ensures valid { IfOk result IsPatchList }
+    ensures few { IfOk result (λ p. length p.patches ≤ most) }
+    ensures refused { IfErr result
+        (SaysWhyWithin (random_input_of budgets.now choices.now) unit most) }
+{
     prove!(choices.count() > 0);
-    let chosen = all_chosen(alloc, budgets, choices)?;
+    let chosen = all_chosen(alloc, budgets, choices, most)?;
     let shared = shared_out(alloc, chosen.as_slice(), unit)?;
     let united = united(alloc, chosen.as_slice(), shared.units.as_slice())?;
     Ok(crate::patch_list::Patches::make(budgets.count(), united, shared.total, unit))

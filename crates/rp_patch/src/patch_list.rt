@@ -2,7 +2,7 @@
 ghost use Rattle.std.specs.Prelude.{◌≡◌, ◌<◌, ◌≤◌, length};
 ghost use Rattle.rp_patch.specs.Patches.{IsPatchList, budget_at, sign_at, units_at};
 
-use rp_limits::patch::PATCHES;
+use rp_limits::generated::PATCHES;
 use rp_limits::table::BUDGETS;
 use rp_num::Seq;
 use std::marker::Model;

@@ -4,11 +4,11 @@ use Rattle.rp_patch.specs.Apportionment.{AreFilled, AreGrouped, GroupedCounts, H
 use Rattle.rp_patch.specs.Choices.{random_input_of}
 use Rattle.rp_patch.specs.InnerUnited.{SaysWhyNotShared, budgets_of, counts_of, times_of}
 use Rattle.rp_patch.specs.Patches.{PatchList}
-use Rattle.rp_patch.specs.Units.{ArePatchesOf, SaysWhy}
+use Rattle.rp_patch.specs.Units.{ArePatchesOf, SaysWhyWithin}
 use Rattle.rp_patch.specs.declared.chosen.Chosen.{Chosen}
 use Rattle.rp_patch.proofs.ChosenGroups.{are_grouped, counts_is, few_on_each, some_on_every}
 use Rattle.rp_patch.proofs.PatchesMade.{are_patches, is_patch_list, refused_units, united_by}
-use Rattle.rp_patch.proofs.of_choices.patches.Goals as goal
+use Rattle.rp_patch.proofs.of_choices.patches_within.Goals as goal
 
 pub shared_out-requires-clause-grouped : goal.shared_out-requires-clause-grouped
 shared_out-requires-clause-grouped c =
@@ -18,7 +18,7 @@ shared_out-requires-clause-grouped c =
     let is = c.as_slice.ensures.value ∙ c.in_ok-chosen.ensures.exact in
     let few = c.in_ok-chosen.ensures.few in
     subst (λ (xs : List Chosen). AreGrouped (budgets_of xs) (times_of xs)) (sym is)
-    (are_grouped input some positive (omega (arith, ap length c.in_ok-chosen.ensures.exact, few)) (few_on_each c.args.budgets.now c.args.choices.now c.count.ensures.valid))
+    (are_grouped input some positive (omega (arith, ap length c.in_ok-chosen.ensures.exact, few, c.requires.most)) (few_on_each c.args.budgets.now c.args.choices.now c.count.ensures.valid))
 
 pub make-requires : goal.make-requires
 make-requires c =
@@ -32,7 +32,7 @@ make-requires c =
     let united = united_by input c.as_slice-2.result.now shared.units c.as_slice-3.result.now c.in_ok-united.united.items
     (c.as_slice-2.ensures.value ∙ c.in_ok-chosen.ensures.exact) c.as_slice-3.ensures c.in_ok-united.ensures in
     is_patch_list input shared.total shared.units (c.in_ok-shared.ensures.each ∙ ap length is) _ c.count-2.ensures.count refl united filled
-    some c.count-2.ensures.valid.few_budgets (omega (arith, ap length c.in_ok-chosen.ensures.exact, few)) c.in_ok-shared.ensures.within.0 c.in_ok-shared.ensures.within.1
+    some c.count-2.ensures.valid.few_budgets (omega (arith, ap length c.in_ok-chosen.ensures.exact, few, c.requires.most)) c.in_ok-shared.ensures.within.0 c.in_ok-shared.ensures.within.1
 
 pub returns-clause-exact : goal.returns-clause-exact
 returns-clause-exact c =
@@ -54,6 +54,6 @@ returns-in_err-shared-clause-refused c =
     let some : 1 ≤ length c.args.budgets.now.w = omega (arith, c.requires.from.on_budgets 0 c.count.ensures.valid.some_choices) in
     let is = c.as_slice.ensures.value ∙ c.in_ok-chosen.ensures.exact in
     let few = c.in_ok-chosen.ensures.few in
-    passed_on c.from_residual-in_err-shared.result c.in_err-shared.field-0.0 (SaysWhy input c.args.unit) c.from_residual-in_err-shared.ensures
-    (refused_units input c.args.unit c.in_err-shared.field-0.0 (omega (arith, ap length c.in_ok-chosen.ensures.exact, few))
+    passed_on c.from_residual-in_err-shared.result c.in_err-shared.field-0.0 (SaysWhyWithin input c.args.unit c.args.most) c.from_residual-in_err-shared.ensures
+    (refused_units input c.args.unit c.args.most c.in_err-shared.field-0.0 (omega (arith, ap length c.in_ok-chosen.ensures.exact, few))
     (subst (λ (g : GroupedCounts). SaysWhyNotShared g c.args.unit c.in_err-shared.field-0.0) (ap counts_of is ∙ counts_is input some positive) c.in_err-shared.ensures.refused))
