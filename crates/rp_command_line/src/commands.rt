@@ -161,13 +161,6 @@ pub(crate) fn commands() -> &'static [Command]
 }
 
 impl Command {
-    /// The files that the command is given.
-    pub fn files(self) -> FileSet
-        ensures { result ≡ (form_of self).files }
-    {
-        self.form().files
-    }
-
     /// Whether the command takes a table whose observations have levels of their own.
     pub fn takes_levels(self) -> bool
         ensures { result ≡ (form_of self).levels }
