@@ -11,6 +11,9 @@ use Rattle.rp_patch.specs.Mixtures.{types_on}
 use Rattle.rp_patch.specs.Patches.{IsPatchList, PatchList}
 use Rattle.rp_patch.specs.RandomEvidence.{ProvesOnPatches, ProvesRandom}
 use Rattle.rp_patch.specs.RandomFailure.{ItemFailsOnPatches, RandomFails}
+use Rattle.rp_check.specs.RandomCheckVerdict.{RandomItemFailsAt}
+use Rattle.rp_check.specs.RandomCheckWithin.{ItemFailsOnPatchesWithin, RandomItemFailsWithinAt}
+use Rattle.rp_check_mixture.proofs.InParts.{without}
 use Rattle.rp_patch.proofs.KindSound.{mixture_sound, violation_sound}
 use Rattle.rp_patch.proofs.TypeKinds.{are_whole}
 
@@ -33,3 +36,19 @@ module _ (p : PatchList) (is : IsPatchList p) where
   pub random_items_sound : (items : List Item) → All (IsOfKind RandomKind) items
       → ((k : ℕ) → k < length items → (other : Item) → ItemFailsOnPatches p (slice_index_or items k other) (Ok tt)) → All (ProvesOnPatches p) items
   random_items_sound items kinds found k other within = random_item_sound (slice_index_or items k other) (kinds k other within) (found k within other)
+
+-- what fails no clause within a number of steps fails none without a limit
+module _ (p : PatchList) (steps : ℕ) where
+  item_without : (item : Item) → ItemFailsOnPatchesWithin p item steps (Ok tt) → ItemFailsOnPatches p item (Ok tt)
+  item_without (GarpItem evidence) found = found
+  item_without (AfriatItem evidence) found = found
+  item_without (EfficiencyItem evidence) found = found
+  item_without (HomotheticItem evidence) found = found
+  item_without (QuasiItem evidence) found = found
+  item_without (DemandItem prices m evidence) found = found
+  item_without (WelfareItem prices of evidence) found = found
+  item_without (RandomItem total evidence) found = without p total evidence steps found
+
+  pub items_without : (items : List Item) → ((k : ℕ) → k < length items → RandomItemFailsWithinAt p items steps k (Ok tt))
+      → (k : ℕ) → k < length items → RandomItemFailsAt p items k (Ok tt)
+  items_without items found k within other = item_without (slice_index_or items k other) (found k within other)

@@ -1,18 +1,20 @@
 -- The clauses of weights that show that there is no mixture, in two parts: those before any kind is weighed, and the
--- others.
-use Rattle.std.proofs.Common.{◌≡◌, ◌<◌, ◌≤◌, ◌*◌, ℕ, List, [], ◌∷◌, All, Option, Some, None, IfSome, Result, Ok, Err, inl, inr, length}
+-- others; and with a limit of steps between them.
+use Rattle.std.proofs.Common.{◌≡◌, ◌<◌, ◌≤◌, ◌*◌, ℕ, List, [], ◌∷◌, All, Result, Ok, Err, inl, inr, length}
 use Rattle.rp_evidence.specs.declared.failure.Failure.{Failure}
-use Rattle.rp_evidence.specs.declared.failure.Reason.TheVariants.{Dual, Least, NotLess, Number, Shape, Units}
+use Rattle.rp_evidence.specs.declared.failure.Reason.TheVariants.{Dual, Least, NotLess, Number, Shape, Steps, Units}
 use Rattle.rp_evidence.specs.declared.random.RandomPart.{RandomPart}
+use Rattle.rp_evidence.specs.declared.random.RandomPart.TheVariants.{Mixture, Violated, Wide}
 use Rattle.rp_evidence.specs.declared.random.Share.{Share}
 use Rattle.rp_evidence.specs.Clauses.{Finding, FirstUnless, InOrder, Unless}
-use Rattle.rp_evidence.proofs.ClauseLemmas.{then_last}
 use Rattle.rp_farkas.specs.Limits.{FitsEvidence}
-use Rattle.rp_patch.specs.KindFailure.{EvidenceFailsOf, HasFitNumbers, PartsFailOf, ViolationFailsOf}
+use Rattle.rp_patch.specs.KindFailure.{HasFitNumbers, PartsFailOf, ViolationFailsOf}
 use Rattle.rp_patch.specs.Kinds.{Kinds, all_units_weight, cells_weight, weight_of, weight_using}
 use Rattle.rp_patch.specs.Mixtures.{types_on}
 use Rattle.rp_patch.specs.Patches.{PatchList}
-use Rattle.rp_patch.specs.RandomFailure.{RandomFails}
+use Rattle.rp_patch.specs.RandomFailure.{RandomFails, RandomPartFails}
+use Rattle.rp_check_mixture.specs.LightFronts.{HasMoreLightFrontsThan}
+use Rattle.rp_check_mixture.specs.RandomWithin.{RandomFailsWithin, RandomPartFailsWithin, ViolationFailsWithin}
 
 -- ---- clauses in two parts
 
@@ -60,10 +62,27 @@ module _ (k : Kinds) (den : ℕ) (shares : List Share) (weights : List ℕ) wher
   pub then_weighed : (r : Result (Unit {0}) Failure) → InOrder before_weighing (Ok tt) → InOrder weighing r → ViolationFailsOf k den shares weights r
   then_weighed r holds found = then_rest before_weighing weighing r holds found
 
-  pub then_weighed_within : (o : Option (Result (Unit {0}) Failure)) → InOrder before_weighing (Ok tt) → IfSome o (InOrder weighing) → IfSome o (ViolationFailsOf k den shares weights)
-  then_weighed_within None holds found = tt
-  then_weighed_within (Some r) holds found = then_weighed r holds found
+-- ---- within a number of steps
 
-pub with_total : (p : PatchList) (total : ℕ) (part : RandomPart) (o : Option (Result (Unit {0}) Failure)) → total ≡ p.total → IfSome o (EvidenceFailsOf (types_on p) part) → IfSome o (RandomFails p total part)
-with_total p total part None same found = tt
-with_total p total part (Some r) same found = then_last (Unless (total ≡ p.total) Units 0) (EvidenceFailsOf (types_on p) part) r same found
+module _ (p : PatchList) (den : ℕ) (shares : List Share) (weights : List ℕ) (steps : ℕ) where
+  abbrev weighing_within : List Finding
+  weighing_within = Unless (¬ HasMoreLightFrontsThan p weights den steps) Steps 0 ∷ weighing (types_on p) den shares weights
+
+  pub weighed_within : (r : Result (Unit {0}) Failure) → ¬ HasMoreLightFrontsThan p weights den steps → InOrder (weighing (types_on p) den shares weights) r → InOrder weighing_within r
+  weighed_within r within found =
+      then_rest (Unless (¬ HasMoreLightFrontsThan p weights den steps) Steps 0 ∷ []) (weighing (types_on p) den shares weights) r (within, tt) found
+
+  pub fails_before_within : (e : Failure) → InOrder (before_weighing (types_on p) den shares weights) (Err e) → ViolationFailsWithin p den shares weights steps (Err e)
+  fails_before_within e found = front_fails (before_weighing (types_on p) den shares weights) weighing_within e found
+
+  pub then_weighed_within : (r : Result (Unit {0}) Failure) → InOrder (before_weighing (types_on p) den shares weights) (Ok tt) → InOrder weighing_within r → ViolationFailsWithin p den shares weights steps r
+  then_weighed_within r holds found = then_rest (before_weighing (types_on p) den shares weights) weighing_within r holds found
+
+-- what fails no clause within a limit fails none without
+pub part_without : (p : PatchList) (part : RandomPart) (steps : ℕ) → RandomPartFailsWithin p part steps (Ok tt) → RandomPartFails p part (Ok tt)
+part_without p (Mixture den parts) steps found = found
+part_without p (Violated den parts weights) steps (fit, (kinds, (one_each, (units, (within, rest))))) = (fit, (kinds, (one_each, (units, rest))))
+part_without p (Wide step) steps found = found
+
+pub without : (p : PatchList) (total : ℕ) (part : RandomPart) (steps : ℕ) → RandomFailsWithin p total part steps (Ok tt) → RandomFails p total part (Ok tt)
+without p total part steps (same, (found, done)) = (same, (part_without p part steps found, done))

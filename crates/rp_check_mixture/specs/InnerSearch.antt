@@ -1,6 +1,6 @@
 -- Words that only proofs need: how far a search through the types has come.
 use Rattle.std.specs.Prelude.{◌≡◌, ◌≢◌, ◌<◌, ◌≤◌, ◌⊎◌, ◌+◌, ◌-◌, ◌*◌, ◌^◌, ◌++◌, ℕ, zero, suc, List, [], ◌∷◌, length}
-use Rattle.std.specs.Prelude.{All, AllPairs, slice_index, slice_index_or}
+use Rattle.std.specs.Prelude.{⊤, All, AllPairs, Contains, IfSome, Option, slice_index, slice_index_or}
 use Rattle.rp_patch.specs.Kinds.{cells_weight}
 use Rattle.rp_patch.specs.PartialTypes.{Before, IsPartialType, taken_in}
 use Rattle.rp_patch.specs.Patches.{PatchList, budget_at}
@@ -61,18 +61,27 @@ place_of base (suc left) (x ∷ xs) = (x + 1) * base ^ left + place_of base left
 abbrev pub place_in : PatchList → List ℕ → ℕ
 place_in p front = place_of (length p.patches + 2) p.budgets front
 
--- The search went through at least so many light fronts, each of them before the patches at hand.
-pub record HasMet (p : PatchList) (weights : List ℕ) (least : ℕ) (here : List ℕ) (made : ℕ) : Type 0 where
+-- Patches come before others: they are the first of these, but not all, or have a lesser patch where they first differ.
+abbrev pub Earlier : List ℕ → List ℕ → Type 0
+Earlier front [] = ⊥
+Earlier [] (i ∷ rest) = ⊤
+Earlier (j ∷ front) (i ∷ rest) = (j < i) ⊎ ((j ≡ i) × Earlier front rest)
+
+-- These are all the light fronts before the patches at hand, no two of them the same, and the search went through them.
+-- Under a limit their number is that which was counted, and within it.
+pub record HasMet (p : PatchList) (weights : List ℕ) (least : ℕ) (limit : Option ℕ) (here : List ℕ) (counted : ℕ)
+    : Type 0 where
   pub fronts : List (List ℕ)
   pub apart : AllPairs (λ a b. a ≢ b) fronts
   pub light : All (IsLightFront p weights least) fronts
-  pub earlier : All (λ front. place_in p front < place_in p here) fronts
-  pub enough : made ≤ length fronts
+  pub lower : All (λ front. place_in p front < place_in p here) fronts
+  pub all : (front : List ℕ) → IsLightFront p weights least front → Earlier front here → Contains fronts front
+  pub exact : IfSome limit (λ steps. (counted ≡ length fronts) × (counted ≤ steps))
 
 -- Each partial type has a patch more than that before it; each rational type that comes before the patches weighs
--- enough; and at least so many light fronts were gone through.
-pub record IsSearching (p : PatchList) (weights : List ℕ) (least : ℕ) (parts : List PartialType)
-    (depth i made : ℕ) : Type 0 where
+-- enough; and the light fronts before them were gone through.
+pub record IsSearching (p : PatchList) (weights : List ℕ) (least : ℕ) (limit : Option ℕ) (parts : List PartialType)
+    (depth i counted : ℕ) : Type 0 where
   pub room : length parts ≡ BUDGETS
   pub deep : depth < p.budgets
   pub within : i ≤ length p.patches
@@ -82,4 +91,4 @@ pub record IsSearching (p : PatchList) (weights : List ℕ) (least : ℕ) (parts
       ≡ taken_in (type_of_depth parts k) ++ slice_index (taken_in (type_of_depth parts (k + 1))) k ∷ []
   pub weighed : (type : List ℕ) → IsRationalType p type → Before type (front_of parts depth i)
       → least ≤ cells_weight weights type
-  pub met : HasMet p weights least (front_of parts depth i) made
+  pub met : HasMet p weights least limit (front_of parts depth i) counted

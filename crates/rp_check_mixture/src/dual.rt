@@ -1,7 +1,7 @@
 //! The search for a rational type that weighs less than it should, depth first over the budgets. A partial type with a
 //! violation is left, and so is one whose patches weigh enough with the lightest patches of the budgets to come.
-ghost use Rattle.std.specs.Prelude.{◌≡◌, ◌<◌, ◌≤◌, ◌↔◌, ◌*◌, ◌^◌, ℕ, Some, true, false, List};
-ghost use Rattle.std.specs.Prelude.{IfNone, IfSome, IsTrue, length, slice_index};
+ghost use Rattle.std.specs.Prelude.{◌≡◌, ◌<◌, ◌≤◌, ◌↔◌, ◌+◌, ◌*◌, ◌^◌, ℕ, Some, true, false, List};
+ghost use Rattle.std.specs.Prelude.{IfNone, IfSome, IsSomeAnd, IsTrue, length, slice_index};
 ghost use Rattle.rp_patch.specs.Kinds.{cells_weight};
 ghost use Rattle.rp_patch.specs.Patches.{budget_at};
 ghost use Rattle.rp_patch.specs.Types.{IsRationalType};
@@ -115,7 +115,7 @@ fn all_weigh_by(
     ensures within { IfSome result (λ all. ¬ PassesLimit patches.now weights.now least limit) }
 {
     prove!(patches.budgets() <= BUDGETS);
-    let mut made = 0;
+    let mut counted = 0;
     let mut depth = 0;
     let mut i = 0;
     partials[0] = PartialType::new(patches);
@@ -135,13 +135,15 @@ fn all_weigh_by(
                     } else if longer.taken == patches.budgets() {
                         return Some(false);
                     } else {
-                        match one_more(limit, made) {
+                        match one_more(limit, counted) {
                             None => return None,
-                            Some(more) => made = more,
+                            Some(more) => {
+                                counted = more;
+                                depth += 1;
+                                partials[depth] = longer;
+                                i = 0;
+                            }
                         }
-                        depth += 1;
-                        partials[depth] = longer;
-                        i = 0;
                     }
                 }
                 None => i += 1,

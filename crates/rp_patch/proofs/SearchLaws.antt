@@ -49,13 +49,17 @@ violation_wider : (n m : ℕ) (weak strict : ℕ → ℕ → Type 0) → n ≤ m
 violation_wider n m weak strict le walk v = ((v.0.0, walk_wider n m weak le v.0.0 v.0.0 walk v.0.1, v.0.2), v.1)
 
 -- a violation among some budgets stays one when budgets are added
+pub rational_begun : (p : PatchList) (more front : List ℕ) → Begins more front → IsRationalBelow p more → IsRationalBelow p front
+rational_begun p more front h rational walk v =
+    let le : length front ≤ length more = begins_length more front h in
+    let same = violates_by_weaker (length front) (IsWeakBy p front) (IsStrictBy p front) (IsWeakBy p more) (IsStrictBy p more)
+    (λ s t s_in t_in w. subst (λ i. sign_at p i s ≤ℤ pos 0) (sym (begins_at more front h t t_in)) w)
+    (λ s t s_in t_in w. subst (λ i. sign_at p i s <ℤ pos 0) (sym (begins_at more front h t t_in)) w) walk v in
+    rational walk (violation_wider (length front) (length more) (IsWeakBy p more) (IsStrictBy p more) le walk same)
+
 pub excluded_by_violation : (p : PatchList) (front : List ℕ) → (¬ IsRationalBelow p front) → (type : List ℕ) → IsRationalType p type → ¬ Begins type front
-excluded_by_violation p front violated type rational h = violated (λ walk v.
-    let le : length front ≤ p.budgets = omega (arith, begins_length type front h, rational.0.one_each) in
-    let same = violates_by_weaker (length front) (IsWeakBy p front) (IsStrictBy p front) (IsWeakBy p type) (IsStrictBy p type)
-    (λ s t s_in t_in w. subst (λ i. sign_at p i s ≤ℤ pos 0) (sym (begins_at type front h t t_in)) w)
-    (λ s t s_in t_in w. subst (λ i. sign_at p i s <ℤ pos 0) (sym (begins_at type front h t t_in)) w) walk v in
-    rational.1 walk (violation_wider (length front) p.budgets (IsWeakBy p type) (IsStrictBy p type) le walk same))
+excluded_by_violation p front violated type rational h =
+    violated (rational_begun p type front h (subst (λ n. HasNoViolation n (IsWeakBy p type) (IsStrictBy p type)) (sym rational.0.one_each) rational.1))
 
 pub excluded_by_budget : (p : PatchList) (front : List ℕ) (i : ℕ) → budget_at p i ≢ length front → (type : List ℕ) → IsRationalType p type → ¬ Begins type (front ++ i ∷ [])
 excluded_by_budget p front i other type rational h =

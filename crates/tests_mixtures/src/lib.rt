@@ -20,4 +20,6 @@ mod reports;
 #[cfg(test)]
 mod rows;
 #[cfg(test)]
+mod steps;
+#[cfg(test)]
 mod told;

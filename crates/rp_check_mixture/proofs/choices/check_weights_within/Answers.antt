@@ -1,10 +1,10 @@
+use Rattle.rp_check_mixture.proofs.InParts.{weighed_within}
 use Rattle.rp_check_mixture.proofs.choices.check_weights_within.Goals as goal
 
 pub check_weights-requires-clause-weighed : goal.check_weights-requires-clause-weighed
 check_weights-requires-clause-weighed c = c.in-Some.ensures.decided
 
-pub returns-in-Some-clause-decided : goal.returns-in-Some-clause-decided
-returns-in-Some-clause-decided c = c.check_weights.ensures
-
-pub returns-in-None-clause-given_up : goal.returns-in-None-clause-given_up
-returns-in-None-clause-given_up c = c.in-None.ensures.given_up
+pub returns-in-Some : goal.returns-in-Some
+returns-in-Some c =
+    weighed_within c.args.patches.now c.args.den c.args.shares.now c.args.weights.now c.args.steps c.check_weights.result
+    c.in-Some.ensures.within c.check_weights.ensures

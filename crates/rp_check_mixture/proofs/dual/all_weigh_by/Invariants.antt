@@ -3,7 +3,7 @@ use Rattle.rp_check_mixture.specs.InnerSearch.{IsSearching, front_of, place_in}
 use Rattle.rp_check_mixture.proofs.dual.all_weigh_by.Given as goal
 
 abbrev pub invariant-types : goal.invariant-types
-invariant-types l = IsSearching l.patches l.weights l.least l.partials l.depth l.i l.made
+invariant-types l = IsSearching l.patches l.weights l.least l.limit l.partials l.depth l.i l.counted
 
 abbrev pub decreases-types : goal.decreases-types
 decreases-types l =
