@@ -4,7 +4,7 @@ ghost use Rattle.rp_patch.specs.Types.{combinations, patches_on as patches_of_bu
 ghost use Rattle.rp_types.specs.InnerListed.{SaysTooMany};
 
 use crate::TypesFault;
-use rp_limits::patch::PATCHES;
+use rp_limits::generated::PATCHES;
 use rp_limits::types::COMBINATIONS;
 use rp_patch::Patches;
 
