@@ -3,7 +3,7 @@ use Rattle.std.proofs.Common.{◌≡◌, ℕ, List, Ok, Err, inl, inr, refl, sli
 use Rattle.rp_check.specs.RandomCheckWithin.{IsRandomCheckVerdictWithin, ItemFailsOnPatchesWithin}
 use Rattle.rp_check.specs.declared.verdict.Verdict.{Verdict}
 use Rattle.rp_check.specs.declared.verdict.Verdict.TheVariants.{Accepted, Rejected}
-use Rattle.rp_check_mixture.proofs.OneFinding.{evidence_excludes, parts_exclude}
+use Rattle.rp_check_mixture.proofs.OneFinding.{evidence_excludes}
 use Rattle.rp_check_mixture.specs.RandomWithin.{RandomFailsWithin, RandomPartFailsWithin, ViolationFailsWithin}
 use Rattle.rp_evidence.specs.declared.certificate.Item.{Item}
 use Rattle.rp_evidence.specs.declared.certificate.Item.TheVariants.{Garp as GarpItem, Afriat as AfriatItem, Efficiency as EfficiencyItem, Homothetic as HomotheticItem, Quasi as QuasiItem, Demand as DemandItem, Welfare as WelfareItem, Random as RandomItem}
@@ -11,6 +11,7 @@ use Rattle.rp_evidence.specs.declared.failure.Failure.{Failure}
 use Rattle.rp_evidence.specs.declared.random.RandomPart.{RandomPart}
 use Rattle.rp_evidence.specs.declared.random.RandomPart.TheVariants.{Mixture, Violated, Wide}
 use Rattle.rp_evidence.specs.declared.random.Share.{Share}
+use Rattle.rp_patch.specs.KindFailure.{PartFailsOf, PartsFailOf}
 use Rattle.rp_patch.specs.Mixtures.{types_on}
 use Rattle.rp_patch.specs.Patches.{PatchList}
 use Rattle.rp_patch.specs.RandomFailure.{ItemFailsOnPatches, RandomFails}
@@ -19,9 +20,19 @@ any_item : Item
 any_item = RandomItem 0 (Wide 0)
 
 module _ (p : PatchList) (steps : ℕ) (e : Failure) where
+  one_part_excludes : (parts : List Share) (n : ℕ) → PartFailsOf (types_on p) parts n (Ok tt) → PartFailsOf (types_on p) parts n (Err e) → ⊥
+  one_part_excludes parts n (formed, rest) (inl (not, is)) = not formed
+  one_part_excludes parts n (formed, (some, rest)) (inr (h, inl (not, is))) = not some
+  one_part_excludes parts n (formed, (some, (kind, rest))) (inr (h, inr (i, inl (not, is)))) = not kind
+  one_part_excludes parts n (formed, (some, (kind, (ordered, done)))) (inr (h, inr (i, inr (j, inl (not, is))))) = not ordered
+  one_part_excludes parts n (formed, (some, (kind, (ordered, done)))) (inr (h, inr (i, inr (j, inr none)))) = none.1
+
+  parts_exclude : (parts : List Share) → PartsFailOf (types_on p) parts (Ok tt) → PartsFailOf (types_on p) parts (Err e) → ⊥
+  parts_exclude parts holds (n, within, found, before) = one_part_excludes parts n (holds n within) found
+
   violation_excludes : (den : ℕ) (parts : List Share) (weights : List ℕ) → ViolationFailsWithin p den parts weights steps (Ok tt) → ViolationFailsWithin p den parts weights steps (Err e) → ⊥
   violation_excludes den parts weights (fit, rest) (inl (not, is)) = not fit
-  violation_excludes den parts weights (fit, (kinds, rest)) (inr (h, inl found)) = parts_exclude (types_on p) e parts kinds found
+  violation_excludes den parts weights (fit, (kinds, rest)) (inr (h, inl found)) = parts_exclude parts kinds found
   violation_excludes den parts weights (fit, (kinds, (one_each, rest))) (inr (h, inr (i, inl (not, is)))) = not one_each
   violation_excludes den parts weights (fit, (kinds, (one_each, (units, rest)))) (inr (h, inr (i, inr (j, inl (n, within, (not, is), before))))) = not (units n within)
   violation_excludes den parts weights (fit, (kinds, (one_each, (units, (few, rest))))) (inr (h, inr (i, inr (j, inr (m, inl (not, is)))))) = not few

@@ -15,7 +15,7 @@ module _ (k : Kinds) (e : Failure) where
   part_excludes parts n (formed, (some, (kind, (ordered, done)))) (inr (h, inr (i, inr (j, inl (not, is))))) = not ordered
   part_excludes parts n (formed, (some, (kind, (ordered, done)))) (inr (h, inr (i, inr (j, inr none)))) = none.1
 
-  pub parts_exclude : (parts : List Share) → PartsFailOf k parts (Ok tt) → PartsFailOf k parts (Err e) → ⊥
+  parts_exclude : (parts : List Share) → PartsFailOf k parts (Ok tt) → PartsFailOf k parts (Err e) → ⊥
   parts_exclude parts holds (n, within, found, before) = part_excludes parts n (holds n within) found
 
   mixture_excludes : (den : ℕ) (parts : List Share) → MixtureFailsOf k den parts (Ok tt) → MixtureFailsOf k den parts (Err e) → ⊥
