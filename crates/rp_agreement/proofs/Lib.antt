@@ -3,11 +3,9 @@ pub mod AcceptedBounds
 pub mod AcceptedItems
 pub mod AcceptedRandom
 pub mod BoundsFit
-pub mod CheckedFits
 pub mod Closed
 pub mod OneFinding
 pub mod OneRandomFinding
-pub mod OneWithinFinding
 pub mod ItemsFit
 pub mod Lists
 pub mod Narrow

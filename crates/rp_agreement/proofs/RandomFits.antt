@@ -38,7 +38,7 @@ module _ (p : LinearProgram) (pair : Pair) (ends : EndsOptimal p pair) where
 
 -- ---- the parts of a mixture
 
-pub patches_fit : (p : PatchList) (type : List ℕ) → IsPatchList p → IsType p type → FitObservations type
+patches_fit : (p : PatchList) (type : List ℕ) → IsPatchList p → IsType p type → FitObservations type
 patches_fit p type valid is k d within =
     omega (arith, valid.few_patches, is.patch k (omega (arith, within, is.one_each)), get_or_default type k d 0 within)
 
@@ -49,7 +49,7 @@ weights_fit types (e ∷ es) all zero d within = omega (arith, all 0 e (omega ar
 weights_fit types (e ∷ es) all (suc k) d within = weights_fit types es (all_rest (λ e. FitsEvidence e.value) e es all) k d (omega (arith, within))
 
 module _ (p : PatchList) (types : List (List ℕ)) (valid : IsPatchList p) where
-  pub total_fits : FitsLong p.total
+  total_fits : FitsLong p.total
   total_fits = omega (arith, valid.few_units)
 
   shares_fit : (pair : Pair) (parts : List Share) → EndsOptimal (random_program p types) pair → parts ≡ shares_of types pair.y

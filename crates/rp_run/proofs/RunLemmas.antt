@@ -14,7 +14,7 @@ use Rattle.rp_run.specs.Contents as contents
 use Rattle.rp_agreement.proofs.OneFinding.{only_accepted}
 use Rattle.rp_check.specs.CheckVerdict.{IsCheckVerdict}
 use Rattle.rp_agreement.proofs.OneRandomFinding.{only_accepted_on_patches}
-use Rattle.rp_agreement.proofs.OneWithinFinding.{only_accepted_within}
+use Rattle.rp_answers.proofs.OneWithinFinding.{only_accepted_within}
 use Rattle.rp_patch.specs.Patches.{PatchList}
 use Rattle.rp_types.specs.declared.types.Rational.{Rational}
 use Rattle.rp_check.specs.declared.verdict.Verdict.{Verdict}

@@ -1,5 +1,5 @@
 use Rattle.std.proofs.Common.{◌≡◌, ◌∙◌, ◌≤◌, ℕ, zero, suc, Ok, ap, arith, subst, sym}
-use Rattle.rp_agreement.proofs.CheckedFits.{checked_readable}
+use Rattle.rp_answers.proofs.CheckedFits.{checked_readable}
 use Rattle.rp_agreement.proofs.SameValues.{text_read_back}
 use Rattle.rp_agreement.specs.ReadBack.{IsReadBack}
 use Rattle.rp_check.specs.RandomCheckWithin.{IsRandomCheckVerdictWithin}

@@ -1,5 +1,5 @@
 use Rattle.std.proofs.Common.{slice_index_or}
-use Rattle.rp_agreement.proofs.OneWithinFinding.{item_passes_without_limit}
+use Rattle.rp_answers.proofs.OneWithinFinding.{item_passes_without_limit}
 use Rattle.rp_limits.specs.declared.generated.TheConstants.{STEPS}
 use Rattle.rp_answers.proofs.random.generated_text.Goals as goal
 
