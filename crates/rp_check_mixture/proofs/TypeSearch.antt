@@ -4,7 +4,7 @@
 -- (`back`), each of which gives that record anew. The patches at hand, read as the digits of a number (`place_of`),
 -- rise by a greater last digit, by one digit more, or by a greater last digit but one; what is left below a power
 -- falls, and no front is met twice (`MetFronts`).
-use Rattle.std.proofs.Common.{◌≡◌, ◌≢◌, ◌<◌, ◌≤◌, ◌⊎◌, ◌+◌, ◌-◌, ◌^◌, ◌++◌, inl, inr, ℕ, zero, suc, List, [], ◌∷◌, length, length-append, length-set, get_or-set_same, get_or-set_other, set, slice_index, Option, IfSome, IsSomeAnd, refl, sym, ap, subst, ◌∙◌, arith, below_more}
+use Rattle.std.proofs.Common.{◌≡◌, ◌≢◌, ◌<◌, ◌≤◌, ◌⊎◌, ◌+◌, ◌-◌, ◌^◌, ◌++◌, inl, inr, ℕ, zero, suc, List, [], ◌∷◌, length, length-append, length-set, get_or-set_same, get_or-set_other, set, slice_index, Option, IfSome, IsSomeAnd, sym, ap, subst, ◌∙◌, arith, below_more}
 use Rattle.std.proofs.Math.Nat.{mul-le-mul_right, pow-succ', pow-zero}
 use Rattle.rp_limits.specs.declared.table.TheConstants.{BUDGETS}
 use Rattle.rp_patch.specs.Kinds.{cells_weight}
