@@ -4,16 +4,22 @@
  * lines (page/draws.js), and answered by the program.
  */
 import { make, tableOf } from "./dom.js";
-import { amountsOf, behaviour, drawnTable, words } from "./draws.js";
-import { isAbove, parseReport } from "./reports.js";
+import { amountsOf, behaviour, drawnFile, words } from "./draws.js";
+import { isAbove } from "./reports.js";
+import { askedRows } from "./rows.js";
+import { RECORDS_AT_ONCE } from "./sheets.js";
 
-// How many tables are drawn at once, and the thresholds of an index beside the figure: parts of a hundred.
+// How many behaviours are drawn at once, and the thresholds of an index beside the figure: parts of a hundred.
 const [AT_ONCE, THRESHOLDS] = [50, [90, 95]];
 
+export const HOW_POWER_DRAWS =
+  "The command power draws shares as whole numbers from 0 to 99 over their sum, which crowds them round equal " +
+  "division, so that fewer violate the axiom than of behaviour drawn uniformly. The count is exact for its seed.";
+
 /**
- * Draws so many behaviours from a seed, each on the budgets of one table after another and then anew; `onPart` takes
- * the
- * reports as they come. `tables` are functions that give the purchases of one.
+ * Draws so many behaviours from a seed, each on the budgets of one table after another and then anew, and asks about
+ * them as households of long files; `onPart` takes the rows as they come. `tables` are functions that give the
+ * purchases of one, all of the same goods.
  */
 export async function drawBehaviours(client, tables, seed, count, onPart) {
   const word = words(seed);
@@ -25,20 +31,26 @@ export async function drawBehaviours(client, tables, seed, count, onPart) {
     }
     return kept.get(at);
   };
-  for (let done = 0; done < count; done += AT_ONCE) {
-    const drawn = Array.from({ length: Math.min(AT_ONCE, count - done) }, (_, at) => {
-      const { table, amounts } = budgets((done + at) % tables.length);
-      return { household: String(done + at + 1), bytes: drawnTable(table, behaviour(amounts, word)) };
-    });
-    await client.panel(["analyse", "table.csv"], drawn, (parts) => onPart(parts.map(drawnVerdict)));
+  for (let done = 0; done < count;) {
+    const drawn = [];
+    let records = 0;
+    while (done < count && drawn.length < AT_ONCE && records < RECORDS_AT_ONCE) {
+      const { table, amounts } = budgets(done % tables.length);
+      done += 1;
+      drawn.push({ household: String(done), table, bundles: behaviour(amounts, word) });
+      records += table.prices.length;
+    }
+    onPart(await drawnRows(client, drawn));
   }
 }
 
-/** The verdict on the axiom, and the index, of a drawn behaviour. */
-function drawnVerdict({ status, output, told }) {
-  if (status !== 0) throw new Error(`the program refuses a drawn table: ${told.trim()}`);
-  const { garp, efficiency } = parseReport(output).items;
-  return { garp: garp.verdict, efficiency: efficiency.verdict.split(" ")[0] };
+/** The rows of some behaviours that were drawn. */
+async function drawnRows(client, drawn) {
+  const file = { households: drawn.map((it) => it.household), unnamed: 0, bytes: drawnFile(drawn) };
+  const rows = await askedRows(client, file);
+  const refused = rows.find((it) => it.fault);
+  if (refused) throw new Error(`the program refuses a drawn table: ${refused.fault}`);
+  return rows;
 }
 
 /** How many of these, and which part of them, in words. */

@@ -28,6 +28,11 @@ export function labelled(says, field) {
   return make("span", {}, make("label", { htmlFor: field.id, textContent: says }), field);
 }
 
+/** A field for a whole number. */
+export function numberField(value, least, most) {
+  return make("input", { type: "number", value, min: least, max: most, size: 8 });
+}
+
 /** Hands a file to the browser to keep. */
 export function keepFile(name, data, type) {
   const address = URL.createObjectURL(new Blob([data], { type }));

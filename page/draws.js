@@ -63,11 +63,11 @@ export function behaviour(amounts, word) {
   });
 }
 
-/** The bytes of a table with these prices and the bundles of a behaviour. */
-export function drawnTable(table, bundles) {
-  const names = table.goods.flatMap((_, good) => [`p_${good + 1}`, `q_${good + 1}`]);
-  const rows = table.prices.map(
-    (prices, at) => prices.flatMap((price, good) => [String(price), String(bundles[at][good])]),
-  );
-  return new TextEncoder().encode(writeRecords([names, ...rows]));
+/** The bytes of a long file of behaviours: of each its household, the prices of its table and its bundles. */
+export function drawnFile(drawn) {
+  const names = drawn[0].table.goods.flatMap((_, good) => [`p_${good + 1}`, `q_${good + 1}`]);
+  const rows = drawn.flatMap(({ household, table, bundles }) => table.prices.map(
+    (prices, at) => [household, ...prices.flatMap((price, good) => [String(price), String(bundles[at][good])])],
+  ));
+  return new TextEncoder().encode(writeRecords([["household", ...names], ...rows]));
 }

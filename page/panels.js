@@ -1,85 +1,18 @@
 /** A panel: a verdict for each household, a table that sorts and filters, and the distribution of the index. */
 import { tableAnswers } from "./answers.js";
-import { drawBehaviours, sharesTable } from "./benchmark.js";
-import { button, freshId, keepFile, labelled, make, say } from "./dom.js";
+import { HOW_POWER_DRAWS, drawBehaviours, sharesTable } from "./benchmark.js";
+import { button, freshId, keepFile, labelled, make, numberField, say } from "./dom.js";
 import { MOST_SEED } from "./draws.js";
-import { limit } from "./facts.js";
+import { limit, range } from "./facts.js";
 import { indexPicture, fileOf } from "./pictures.js";
-import { FAULTS, Purchases, asNumber } from "./reports.js";
-import { forSpreadsheet, parseRecords, placeInWords, writeRecords } from "./sheets.js";
+import { Purchases, asNumber } from "./reports.js";
+import { COLUMNS, askedRows, rowAt, tableRecords } from "./rows.js";
+import { parseRecords, writeRecords } from "./sheets.js";
 
 // How many rows stand on the page at once.
 const MOST_ROWS = 500;
-export const COLUMNS = [
-  "household",
-  "observations",
-  "goods",
-  "garp",
-  "efficiency",
-  "efficiency_floor",
-  "attained",
-  "homothetic",
-  "quasilinear",
-  "pump",
-  "pump_floor",
-  "power",
-  "fault",
-  "record",
-  "column",
-];
-// What the page does not ask of each household.
+// What the page does not ask of each household unasked.
 const NOT_ASKED = ["pump", "pump_floor", "power"];
-const SHARE = "[0-9]+(?:/[0-9]+)?";
-const VERDICTS = new RegExp(
-  `^[0-9]+,[0-9]+,(?:holds|violated),${SHARE},[0-9]+[.][0-9]{6},(?:yes|no),(?:holds|violated|withheld),` +
-    "(?:holds|violated),,,$",
-);
-// What faults mean that a panel alone has.
-const OF_IDS = {
-  NoId: "This record has no household, and is no household's: give it the name of its household, or leave it out.",
-  LongId: "The name of a household is longer than is taken.",
-};
-
-/** The words of the call of panels over a long file. */
-export const PANEL_WORDS = ["long.csv", "--id", "household", "--wide"];
-
-/**
- * The rows of a table that the call of panels wrote, by column: of these households, and then of so many records of
- * none. What is any other table, or none, is no answer.
- */
-export function rowsOf(output, { households, unnamed }) {
-  const [names, ...records] = parseRecords(output, ",");
-  const isRow = (fields) => {
-    const [verdicts, fault] = [fields.slice(1, 12).join(","), fields[12]];
-    return fields.length === COLUMNS.length && (fault ? /^,*$/ : VERDICTS).test(verdicts);
-  };
-  const ids = [...households, ...Array(unnamed).fill("")];
-  const isTold = (id, at) => records[at][0] === id && (id !== "" || records[at][12] in OF_IDS);
-  const isTable = names?.join() === COLUMNS.join() && records.length === ids.length;
-  if (!isTable || !records.every(isRow) || !ids.every(isTold)) {
-    throw new Error("the program gave no table of these households");
-  }
-  return records.map((fields) => Object.fromEntries(COLUMNS.map((it, at) => [it, fields[at]])));
-}
-
-/**
- * A row as the page has it: its fault at its place in the file, whose records have these numbers, and as `told` in
- * words; `place` gives the place in the file of a column of the long file.
- */
-export function rowAt(row, numbers, place) {
-  if (!row.fault) return { ...row, told: "" };
-  const record = row.record ? numbers[Number(row.record) - 1] : 0;
-  const at = place({ record, column: Number(row.column) });
-  const told = `${row.fault}${placeInWords(at)}. ${OF_IDS[row.fault] ?? FAULTS[row.fault] ?? ""}`;
-  const text = (number) => (number ? String(number) : "");
-  return { ...row, record: text(record), column: text(at.column), told };
-}
-
-/** The records of a table for a file: a spreadsheet takes no id of it for a formula. */
-export function tableRecords(rows) {
-  const field = (row, it) => (it === "household" ? forSpreadsheet(row[it]) : row[it]);
-  return [COLUMNS, ...rows.map((row) => COLUMNS.map((it) => field(row, it)))];
-}
 
 const seconds = (from) => ((performance.now() - from) / 1000).toFixed(1);
 
@@ -96,33 +29,58 @@ export class Panel {
     [this.files, this.hasLevels] = [files, hasLevels];
     [this.rows, this.random, this.order, this.filter] = [[], [], { column: null, falls: false }, ""];
     [this.hasOwnMoney, this.opening, this.took] = [hasOwnMoney, 0, ""];
-    this.columns = COLUMNS.filter((it) => !NOT_ASKED.includes(it) && !(hasOwnMoney && it === "quasilinear"));
+    this.count = files.reduce((sum, it) => sum + it.households.length + it.unnamed, 0);
+    this.columns = this.#columnsWith([]);
     this.summary = make("p", { id: "panel-summary" });
     this.figure = make("figure", { id: "panel-picture" });
     this.shares = make("div", { id: "panel-shares" });
     this.body = make("tbody");
     this.note = make("p", { className: "note" });
     this.opened = make("section", { id: "panel-household", attrs: { "aria-live": "polite" } });
-    const beside = make("div", { className: "beside" }, this.figure, make("div", {}, this.shares, this.#draws()));
+    const draws = make("div", {}, this.shares, this.#draws(), ...(hasLevels ? [] : this.#powers()));
+    const beside = make("div", { className: "beside" }, this.figure, draws);
     this.place = make("div", {}, this.summary, beside, this.#tools(), this.#table(), this.note, this.opened);
   }
 
   /** Answers each household; `began` is when that was asked for. */
   async run(began) {
-    const all = this.files.reduce((sum, it) => sum + it.households.length + it.unnamed, 0);
     try {
-      for (const file of this.files) {
-        const { status, output, told } = await this.client.households(PANEL_WORDS, file.bytes);
-        if (status !== 0) throw new Error(told.trim() || `the program ended with status ${status}`);
-        for (const it of rowsOf(output, file)) this.rows.push(this.#taken(rowAt(it, file.numbers, this.where)));
-        this.shows.progress(this.rows.length, all, began, "households");
+      for await (const rows of this.#answers(began)) {
+        this.rows.push(...rows);
         this.show(false);
       }
     } finally {
       this.took = ` in ${seconds(began)} s`;
       this.show(true);
     }
-    await this.#drawRandom(this.seed.value, this.count.value);
+    await this.#drawRandom(this.behaviours.value, this.seed.value);
+  }
+
+  /** The rows of one file after another, with the power where that is asked. */
+  async *#answers(began, power = null) {
+    let done = 0;
+    for (const file of this.files) {
+      const rows = (await askedRows(this.client, file, power)).map((it) => rowAt(it, file.numbers, this.where));
+      done += rows.length;
+      this.shows.progress(done, this.count, began, "households");
+      yield rows.map((it) => this.#taken(it));
+    }
+  }
+
+  /** Answers each household anew, with the power of the axiom on its budgets beside its verdicts. */
+  async #askPower(power) {
+    const rows = [];
+    for await (const some of this.#answers(performance.now(), power)) rows.push(...some);
+    [this.rows, this.columns] = [rows, this.#columnsWith(["power"])];
+    this.head.replaceChildren(...this.#heads());
+    this.show(true);
+    this.shows.tell(`The power of each household, by ${power.draws} draws from the seed ${power.seed}: answered.`);
+  }
+
+  /** The columns of the table, and those of them that are not asked unasked. */
+  #columnsWith(asked) {
+    const isAsked = (it) => !NOT_ASKED.includes(it) || asked.includes(it);
+    return COLUMNS.filter((it) => isAsked(it) && !(this.hasOwnMoney && it === "quasilinear"));
   }
 
   /** Where what is spent is in money of its own at each observation, nothing is told that adds it. */
@@ -131,7 +89,7 @@ export class Panel {
   }
 
   /** Random behaviour on the budgets of the households that were answered, one after another. */
-  async #drawRandom(seed, count) {
+  async #drawRandom(count, seed) {
     const answered = new Set(this.rows.filter((it) => !it.fault).map((it) => it.household));
     const given = this.households.filter((it) => answered.has(it.household));
     if (!given.length) return;
@@ -153,20 +111,36 @@ export class Panel {
   /** How many behaviours are drawn, and from which seed. */
   #draws() {
     const most = limit("command_line.draws");
-    this.count = make("input", { type: "number", value: most, min: 1, max: most, size: 6 });
-    this.seed = make("input", { type: "number", value: 1, min: 0, max: MOST_SEED, size: 12 });
+    [this.behaviours, this.seed] = [numberField(most, 1, most), numberField(1, 0, MOST_SEED)];
     this.draw = button("Draw random behaviour anew", () => this.shows.working(async () => {
-      for (const it of [this.count, this.seed]) if (!it.reportValidity()) return;
-      await this.#drawRandom(this.seed.value, this.count.value);
+      if (![this.behaviours, this.seed].every((it) => it.reportValidity())) return;
+      await this.#drawRandom(this.behaviours.value, this.seed.value);
       this.shows.tell(`${this.random.length} random behaviours from the seed ${this.seed.value}: answered.`);
     }));
     return make(
       "div",
       { className: "row" },
-      labelled("Random behaviours", this.count),
+      labelled("Random behaviours", this.behaviours),
       labelled("from the seed", this.seed),
       this.draw,
     );
+  }
+
+  /** How many behaviours the program draws on the budgets of each household, for the column `power`, and the seed. */
+  #powers() {
+    const [draws, seed] = [numberField(1000, ...range("power", "N")), numberField(1, ...range("power", "SEED"))];
+    const ask = button("Ask for the power of each household", () => this.shows.working(async () => {
+      if (![draws, seed].every((it) => it.reportValidity())) return;
+      ask.disabled = true;
+      try {
+        await this.#askPower({ draws: Number(draws.value), seed: seed.value });
+      } finally {
+        ask.disabled = false;
+      }
+    }));
+    const fields = [labelled("Draws of rp power", draws), labelled("from its seed", seed), ask];
+    const row = make("div", { className: "row", id: "panel-power" }, ...fields);
+    return [row, make("p", { className: "note", textContent: HOW_POWER_DRAWS })];
   }
 
   #tools() {
@@ -199,19 +173,22 @@ export class Panel {
   }
 
   #table() {
-    this.heads = this.columns.map(
-      (column) => make(
-        "th",
-        { scope: "col", attrs: { "aria-sort": "none" } },
-        button(column, () => this.#sorted(column)),
-      ),
-    );
-    const table = make("table", { id: "panel-table" }, make("thead", {}, make("tr", {}, ...this.heads)), this.body);
+    this.head = make("tr", {}, ...this.#heads());
+    const table = make("table", { id: "panel-table" }, make("thead", {}, this.head), this.body);
     return make(
       "div",
       { className: "scroll tall", tabIndex: 0, attrs: { role: "region", "aria-label": "verdicts by household" } },
       table,
     );
+  }
+
+  #heads() {
+    this.heads = this.columns.map((column) => make(
+      "th",
+      { scope: "col", attrs: { "aria-sort": "none" } },
+      button(column, () => this.#sorted(column)),
+    ));
+    return this.heads;
   }
 
   #sorted(column) {

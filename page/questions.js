@@ -1,6 +1,6 @@
 /** Further questions on a table. Each says what the answer means, and shows the program's own text. */
 import { tableAnswers } from "./answers.js";
-import { drawBehaviours, shareInWords, sharesTable } from "./benchmark.js";
+import { HOW_POWER_DRAWS, drawBehaviours, shareInWords, sharesTable } from "./benchmark.js";
 import { button, folded, keepFile, labelled, listOf, make, printed, say, tableOf } from "./dom.js";
 import { MOST_SEED } from "./draws.js";
 import { limit, range } from "./facts.js";
@@ -203,16 +203,9 @@ function utilityQuestion(client, file, table) {
   });
 }
 
-function numberField(value, least, most) {
-  return make("input", { type: "number", value, min: least, max: most, size: 8 });
-}
-
 function powerQuestion(client, file) {
   const [seed, draws] = [numberField(1, ...range("power", "SEED")), numberField(1000, ...range("power", "N"))];
-  const explains =
-    "The command power draws shares as whole numbers from 0 to 99 over their sum, which crowds them round equal " +
-    "division, so that fewer violate the axiom than of behaviour drawn uniformly. The count is exact for its seed.";
-  return question("rp power: random behaviour as the command draws it", explains, [
+  return question("rp power: random behaviour as the command draws it", HOW_POWER_DRAWS, [
     labelled("Seed", seed),
     labelled("Draws", draws),
   ], async (place) => {

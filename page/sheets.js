@@ -475,7 +475,7 @@ export function splitHouseholds(records, mapping) {
 }
 
 // So many records are handed to the program at once, and of a household no more than show that it has too many.
-const RECORDS_AT_ONCE = 2000;
+export const RECORDS_AT_ONCE = 2000;
 const deciding = () => limit("table.records") + 1;
 
 /**

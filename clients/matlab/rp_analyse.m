@@ -5,6 +5,7 @@ function verdict = rp_analyse(p, q, varargin)
 %   v = rp_analyse(p, q, 'Levels', e)                e(t), whole thousandths, is the level of observation t alone (Varian 1990)
 %   v = rp_analyse(p, q, 'Places', [2 0])            prices are rounded to 2 places, quantities to none
 %   v = rp_analyse(p, q, 'Numbers', 'shortest')      a double is the shortest decimal that gives it back: 3.18 is 3.18
+%   v = rp_analyse(p, q, 'Wide', false)              the library as it is, and not what its wider edition gives beside
 %
 % A double goes to the library exactly as it is: 0.5 is a half, and 3.18, a binary fraction of 51 places, is refused. Whole
 % types and cell arrays of texts ({'3.18', '1'; ..}) are taken as they are. v has the fields
@@ -17,15 +18,16 @@ function verdict = rp_analyse(p, q, varargin)
 %   homothetic    the homothetic test (Varian 1983), with homothetic_cycle; NaN where it is withheld
 %   quasilinear   the quasilinear test, with quasilinear_cycle
 %   reasons       of what is withheld, the line of the report
+%   wide          the names of what rp itself withholds, and its wider edition gives: {'homothetic'}, or none
 %   text          the report itself, whose numbers are exact
 %
 % Proved is the library, and not this function, which reads its report.
 %
 % See also rp_demand, rp_welfare, rp_panel, rp_plot.
-  known = struct('Levels', [], 'Places', [], 'Numbers', 'exact', 'Names', {{}});
+  known = struct('Levels', [], 'Places', [], 'Numbers', 'exact', 'Names', {{}}, 'Wide', true);
   options = rp_options(varargin, known);
   file = rp_table(p, q, options);
-  text = rp_ask({'analyse', file.name}, file);
+  [text, stated] = rp_wider({'analyse', file.name}, file, options);
   [verdict, lines] = rp_report(text);
   units = 10 ^ sum(verdict.places);
   afriat_units = units;
@@ -82,6 +84,10 @@ function verdict = rp_analyse(p, q, varargin)
       otherwise
         error('rp:Unreadable', 'the report has a line that is not known: %s', strjoin(words, ' '));
     end
+  end
+  verdict.wide = {};
+  if ~isequaln(verdict.homothetic, NaN) && ~strcmp(text, stated)
+    verdict.wide = {'homothetic'};
   end
   verdict.text = text;
 end

@@ -7,20 +7,23 @@ function found = rp_demand(p, q, new, m, varargin)
 %
 %   garp           whether the axiom holds; where it fails, no bundle keeps it, and cycle shows that
 %   lower, upper   the infimum and the supremum of each good, in the units of q; NaN where withheld, with reasons
+%   wide           a row for each good, of the two: whether rp itself withholds it, and its wider edition gives it
 %   inner          one such bundle
 %   below, strict  the observations that the budget is revealed preferred to, and those strictly
 %   text           the lines of the report, whose numbers are exact, in units of the last decimal places
 %
 % See also rp_analyse, rp_welfare.
-  options = rp_options(varargin, struct('Places', [], 'Numbers', 'exact', 'Names', {{}}));
+  options = rp_options(varargin, struct('Places', [], 'Numbers', 'exact', 'Names', {{}}, 'Wide', true));
   [table, told] = rp_table(p, q, options);
   budgets = rp_new(new, m, told.names, options);
-  text = rp_ask({'demand', table.name, budgets.name}, [table, budgets]);
+  [text, stated] = rp_wider({'demand', table.name, budgets.name}, [table, budgets], options);
   [axiom, lines] = rp_report(text);
+  withheld = rp_withheld(stated, '^good ');
+  count = 0;
   unit = 10 ^ axiom.places(2);
   blank = NaN(1, told.goods);
   empty = struct('garp', axiom.garp, 'cycle', axiom.cycle, 'lower', blank, 'upper', blank, 'inner', blank, ...
-    'below', [], 'strict', [], 'reasons', {{}}, 'text', '');
+    'below', [], 'strict', [], 'wide', false(told.goods, 2), 'reasons', {{}}, 'text', '');
   found = repmat(empty, size(new, 1), 1);
   at = 0;
   for line = 1:numel(lines)
@@ -38,6 +41,8 @@ function found = rp_demand(p, q, new, m, varargin)
         [found(at).upper(good), high] = rp_bound(rest(2:end));
         found(at).lower(good) = found(at).lower(good) / unit;
         found(at).upper(good) = found(at).upper(good) / unit;
+        count = count + 1;
+        found(at).wide(good, :) = withheld(count, :) & [isempty(low), isempty(high)];
         if ~isempty([low, high])
           found(at).reasons{end + 1} = strjoin(words, ' ');
         end

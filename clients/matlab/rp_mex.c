@@ -1,9 +1,10 @@
 /*
  * The library for MATLAB and Octave, over rp.c.
  *
- *   [status, output, told] = rp_mex(words, names, files)   a call of rp.h; each argument is a cell array of uint8 rows
- *   texts = rp_mex(numbers)                                doubles as decimals, each exactly as it is
- *   texts = rp_mex(numbers, places)                        rounded to so many places; -1: the shortest that give them back
+ *   [status, output, told] = rp_mex(words, names, files)         rp_answer of rp.h; each argument is a cell array of uint8 rows
+ *   [status, output, told] = rp_mex(words, names, files, call)   another call of the same form: 'rp_answer_wide', 'rp_panel'
+ *   texts = rp_mex(numbers)                                      doubles as decimals, each exactly as it is
+ *   texts = rp_mex(numbers, places)                              rounded to so many places; -1: the shortest that give them back
  */
 #include <math.h>
 #include <stdio.h>
@@ -47,11 +48,29 @@ static mxArray *row_of(const uint8_t *bytes, uint64_t length) {
     return row;
 }
 
-static void call(int given, mxArray *answer[], const mxArray *words, const mxArray *names, const mxArray *files) {
+typedef int32_t Call(
+    const uint8_t *, size_t, const uint8_t *, size_t, const uint64_t *, size_t, const uint8_t *, size_t,
+    uint8_t *, size_t, uint8_t *, size_t, uint64_t *, uint64_t *);
+
+static Call *call_of(const mxArray *name) {
+    static const struct { const char *name; Call *call; } calls[] = {
+        {"rp_answer", rp_answer}, {"rp_answer_wide", rp_answer_wide}, {"rp_panel", rp_panel},
+    };
+    char said[16] = "";
+    if (mxIsChar(name)) mxGetString(name, said, sizeof said);
+    for (size_t at = 0; at < sizeof calls / sizeof *calls; at++)
+        if (strcmp(said, calls[at].name) == 0) return calls[at].call;
+    mexErrMsgIdAndTxt("rp:BadData", "the calls are rp_answer, rp_answer_wide and rp_panel");
+    return NULL;
+}
+
+static void call(int given, mxArray *answer[], const mxArray *words, const mxArray *names, const mxArray *files, Call *asked) {
     size_t count = mxGetNumberOfElements(files);
     if (mxGetNumberOfElements(names) != count) mexErrMsgIdAndTxt("rp:BadData", "there is not one name for each file");
     struct bytes said = joined(words, 1), named = joined(names, 1), content = joined(files, 0);
     uint64_t *sizes = (uint64_t *)mxCalloc(count + 1, sizeof *sizes), output_length = FIRST_ROOM, told_length = FIRST_ROOM;
+    /* A row of a household is no longer than its records and its words: so of a long file few calls are made twice. */
+    if (asked == rp_panel) output_length += content.length;
     for (size_t at = 0; at < count; at++) sizes[at] = length_of(files, at);
     size_t output_room, told_room;
     uint8_t *output, *told;
@@ -62,7 +81,7 @@ static void call(int given, mxArray *answer[], const mxArray *words, const mxArr
         output = (uint8_t *)mxCalloc(output_room + 1, 1);
         told = (uint8_t *)mxCalloc(told_room + 1, 1);
         output_length = told_length = 0;
-        status = rp_answer(
+        status = asked(
             said.at, said.length, named.at, named.length, sizes, count, content.at, content.length, output, output_room, told,
             told_room, &output_length, &told_length);
         if (status == RP_MALFORMED || status == RP_STOPPED) output_length = told_length = 0;
@@ -108,6 +127,13 @@ static void shortest(char *text, double number) {
     *at = 0;
 }
 
+/* As many decimal places as it takes to write the double exactly: its last bit is a power of two. */
+static int places_of(double number) {
+    int exponent;
+    frexp(number, &exponent);
+    return exponent >= 53 ? 0 : exponent > -1021 ? 53 - exponent : 1074;
+}
+
 /* Writes a double as a decimal: exactly as it is (places -2), the shortest (-1), or rounded. What is no number stays none. */
 static void decimal(char *text, double number, int places) {
     if (!isfinite(number)) {
@@ -115,7 +141,7 @@ static void decimal(char *text, double number, int places) {
         return;
     }
     if (places == -1) shortest(text, number);
-    else snprintf(text, LONGEST, "%.*f", places < 0 ? 1074 : places, number);
+    else snprintf(text, LONGEST, "%.*f", places < 0 ? places_of(number) : places, number);
     plain(text);
 }
 
@@ -138,8 +164,8 @@ void mexFunction(int given, mxArray *answer[], int count, const mxArray *argumen
         double places = mxGetScalar(arguments[1]);
         if (!(places >= -1 && places <= 1000)) mexErrMsgIdAndTxt("rp:BadData", "places are from 0 on");
         answer[0] = decimals(arguments[0], (int)places);
-    } else if (count == 3 && mxIsCell(arguments[0]) && mxIsCell(arguments[1]) && mxIsCell(arguments[2])) {
-        call(given, answer, arguments[0], arguments[1], arguments[2]);
+    } else if ((count == 3 || count == 4) && mxIsCell(arguments[0]) && mxIsCell(arguments[1]) && mxIsCell(arguments[2])) {
+        call(given, answer, arguments[0], arguments[1], arguments[2], count == 4 ? call_of(arguments[3]) : rp_answer);
     } else {
         mexErrMsgIdAndTxt("rp:BadData", "rp_mex takes words, names and files, or numbers");
     }

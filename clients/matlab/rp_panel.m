@@ -1,71 +1,108 @@
 function found = rp_panel(t, key, varargin)
-% RP_PANEL  The verdicts on each household of a long table.
+% RP_PANEL  The verdicts on each household of a long table, by the library's call of panels.
 %
-%   r = rp_panel(t, 'household')               t is a table, or a struct of columns: p_NAME and q_NAME for each good, and the key
-%   r = rp_panel(t, 'household', 'Pump', true) the money pump ratio too
+%   r = rp_panel(t, 'household')               t is a table, or a struct of columns: p_NAME and q_NAME for each good, and the key;
+%                                              a column e has levels of the observations, and obs their labels
+%   r = rp_panel(t, {'town', 'household'})     several columns tell the households apart
+%   r = rp_panel(.., 'Pump', true)             the greatest money pump ratio too
+%   r = rp_panel(.., 'Power', 100, 'Seed', 7)  how many of 100 random behaviours on the same budgets violate the axiom
+%   r = rp_panel(.., 'Wide', false)            the library as it is, and not what its wider edition gives beside
 %
-% Rows stand in the order in which they were chosen; households come in the order in which they first appear. Options are
-% those of rp_analyse, without levels. r is a struct array with the fields key, rows (how many), garp, efficiency, ccei,
-% homothetic, quasilinear, pump, and refusal: '' or why the household has no verdict, in which case the others are NaN. An
-% error that is none of a household's data stops the panel.
-  options = rp_options(varargin, struct('Pump', false, 'Places', [], 'Numbers', 'exact'));
-  if isstruct(t)
-    heads = fieldnames(t)';
-  else
-    heads = t.Properties.VariableNames;
-  end
-  names = regexprep(heads(strncmp(heads, 'p_', 2)), '^p_', '');
-  if isempty(names) || ~all(ismember(strcat('q_', names), heads)) || ~ismember(key, heads)
-    error('rp:WrongColumns', 'wanted are p_NAME and q_NAME for each good and the key %s; there are %s', key, strjoin(heads, ', '));
-  end
-  [p, q] = deal(rp_columns(t, strcat('p_', names)), rp_columns(t, strcat('q_', names)));
-  keys = t.(key);
-  if isnumeric(keys) && any(isnan(double(keys(:))))
-    error('rp:BadData', 'a row has no key: %s is NaN', key);
-  end
-  [homes, first, at] = unique(keys(:), 'first');
-  [first, order] = sort(first(:));
-  homes = homes(order);
-  more = {'Places', options.Places, 'Numbers', options.Numbers, 'Names', names};
-  found = repmat(struct('key', [], 'rows', 0, 'garp', NaN, 'efficiency', '', 'ccei', NaN, 'homothetic', NaN, 'quasilinear', NaN, ...
-    'pump', NaN, 'refusal', ''), numel(homes), 1);
-  for home = 1:numel(homes)
-    own = find(at == order(home));
-    if iscell(homes)
-      found(home).key = homes{home};
-    else
-      found(home).key = homes(home);
-    end
-    found(home).rows = numel(own);
-    try
-      verdict = rp_analyse(p(own, :), q(own, :), more{:});
-      for name = {'garp', 'efficiency', 'ccei', 'homothetic', 'quasilinear'}
-        found(home).(name{1}) = verdict.(name{1});
-      end
-      if options.Pump
-        pump = rp_pump(p(own, :), q(own, :), more{:});
-        found(home).pump = pump.pump;
-      end
-    catch wrong
-      if ~strncmp(wrong.identifier, 'rp:Refused', 10)
-        rethrow(wrong);
-      end
-      found(home).refusal = wrong.message;
-    end
-  end
-  refused = ~cellfun(@isempty, {found.refusal});
-  if all(refused) && ~isempty(found)
-    error('rp:Refused:All', 'every household is refused, the first by: %s', found(1).refusal);
+% Rows stand in the order in which they were chosen; households come in the order in which they first appear, and behind them the
+% rows that have no household. Blanks round a key are cut. 'Places' and 'Numbers' are those of rp_analyse. r is a struct array, of
+% which struct2table makes a table; the key has its own name, and the other fields are those of every table of households:
+%
+%   observations, goods               how many the household has
+%   garp, attained                    true or false
+%   homothetic, quasilinear           the same; NaN where it is withheld
+%   efficiency, pump, power           exactly, as texts such as '4/5'; power has the violations over the draws
+%   efficiency_floor, pump_floor      the same as numbers of six places, rounded down; ccei is the nearest double to the index
+%   fault                             '' or why there are no verdicts, with the record and the column of t, and in words as refusal
+%
+% A household with a fault takes no other with it. Where all have the same, that is an error.
+%
+% See also rp_analyse.
+  known = struct('Pump', false, 'Power', [], 'Seed', 1, 'Wide', true, 'Places', [], 'Numbers', 'exact');
+  options = rp_options(varargin, known);
+  words = [{'long.csv', '--id', 'household'}, rp_asked(options)];
+  long = rp_long(t, key, options);
+  rows = [rp_rows(long, find(long.is_named), words); rp_rows(long, find(~long.is_named), words)];
+  found = rp_found(long, rows);
+  faults = unique({found.fault});
+  if numel(faults) == 1 && ~isempty(faults{1})
+    error('rp:Refused:All', 'all households are refused for one cause, the first by: %s', found(1).refusal);
   end
 end
 
-function columns = rp_columns(t, names)
-% Columns of a table beside each other: a matrix of doubles, or a cell array of texts.
-  parts = cellfun(@(name) t.(name), names, 'UniformOutput', false);
-  parts = cellfun(@(it) it(:), parts, 'UniformOutput', false);
-  classes = unique(cellfun(@class, parts, 'UniformOutput', false));
-  if numel(classes) > 1
-    error('rp:BadData', 'columns of prices, and of quantities, are of one class: these are %s', strjoin(classes, ', '));
+function words = rp_asked(options)
+% What is asked beside the verdicts.
+  words = {};
+  if options.Pump
+    words{end + 1} = '--pump';
   end
-  columns = horzcat(parts{:});
+  if ~isempty(options.Power)
+    words = [words, {'--power', rp_whole(options.Power, '''Power'''), rp_whole(options.Seed, '''Seed''')}];
+  end
+  if options.Wide
+    words{end + 1} = '--wide';
+  end
+end
+
+function found = rp_found(long, rows)
+% The struct array of the rows that the call gave, each a row of texts.
+  names = rp_panel_columns();
+  text = @(name) rows(:, strcmp(names, name));
+  number = @(name) num2cell(str2double(text(name)));
+  made = struct();
+  for at = 1:numel(long.keys)
+    made.(long.keys{at}) = long.values{at};
+  end
+  [made.observations, made.goods, made.garp] = deal(number('observations'), number('goods'), rp_truths(text('garp')));
+  [made.efficiency, made.efficiency_floor] = deal(text('efficiency'), number('efficiency_floor'));
+  made.ccei = cellfun(@rp_index, text('efficiency'), 'UniformOutput', false);
+  [made.attained, made.homothetic] = deal(rp_truths(text('attained')), rp_truths(text('homothetic')));
+  [made.quasilinear, made.pump, made.pump_floor] = deal(rp_truths(text('quasilinear')), text('pump'), number('pump_floor'));
+  [made.power, made.fault] = deal(text('power'), text('fault'));
+  [made.record, made.column, made.refusal] = rp_places(long, rows);
+  columns = struct2cell(made);
+  found = cell2struct(horzcat(columns{:}), fieldnames(made), 2);
+end
+
+function truths = rp_truths(texts)
+% true, false, or NaN of texts.
+  truths = repmat({NaN}, size(texts));
+  truths(ismember(texts, {'holds', 'yes'})) = {true};
+  truths(ismember(texts, {'violated', 'no'})) = {false};
+end
+
+function level = rp_index(text)
+% The nearest double to an index, NaN where there is none.
+  level = NaN;
+  if ~isempty(text)
+    level = rp_level(text);
+  end
+end
+
+function [records, columns, refusals] = rp_places(long, rows)
+% Where the faults stand in the table that was given, and what is told of them.
+  count = size(rows, 1);
+  [records, columns] = deal(num2cell(NaN(count, 1)));
+  refusals = repmat({''}, count, 1);
+  for at = find(~cellfun('isempty', rows(:, 13)))'
+    [fault, record, column] = deal(rows{at, 13}, str2double(rows{at, 14}), str2double(rows{at, 15}));
+    where = '';
+    if ~isnan(record)
+      records{at} = record;
+      where = sprintf(' at row %d', record);
+    end
+    if ~isnan(column)
+      columns{at} = long.places(column);
+      where = sprintf('%s, column %s', where, long.names{column});
+      if ~isnan(record) && column > 1
+        value = rp_fields([long.cells{record, column - 1}, ',']);
+        where = sprintf('%s, value %s', where, rp_shown(value{1}));
+      end
+    end
+    refusals{at} = [fault, where, rp_hint(fault)];
+  end
 end

@@ -8,17 +8,20 @@ function found = rp_welfare(p, q, new, varargin)
 %   garp    whether the axiom holds; where it fails the rest is NaN, and cycle shows that
 %   lower   for each observation the least that it costs, in the units of money of new; NaN where withheld, with reasons
 %   upper   what it costs at most, which the bundle of the observation in the field at costs
+%   wide    for each observation whether rp itself withholds the lower bound, and its wider edition gives it
 %   text    the lines of the report, whose numbers are exact
 %
 % See also rp_analyse, rp_demand.
-  options = rp_options(varargin, struct('Places', [], 'Numbers', 'exact', 'Names', {{}}));
+  options = rp_options(varargin, struct('Places', [], 'Numbers', 'exact', 'Names', {{}}, 'Wide', true));
   [table, told] = rp_table(p, q, options);
   [asked, places] = rp_new(new, [], told.names, options);
-  text = rp_ask({'welfare', table.name, asked.name}, [table, asked]);
+  [text, stated] = rp_wider({'welfare', table.name, asked.name}, [table, asked], options);
   [axiom, lines] = rp_report(text);
+  withheld = rp_withheld(stated, '^welfare .* lower ');
   unit = 10 ^ (places + axiom.places(2));
   blank = NaN(told.rows, 1);
-  empty = struct('garp', axiom.garp, 'cycle', axiom.cycle, 'lower', blank, 'upper', blank, 'at', blank, 'reasons', {{}}, 'text', '');
+  empty = struct('garp', axiom.garp, 'cycle', axiom.cycle, 'lower', blank, 'upper', blank, 'at', blank, ...
+    'wide', false(told.rows, 1), 'reasons', {{}}, 'text', '');
   found = repmat(empty, size(new, 1), 1);
   count = 0;
   for line = 1:numel(lines)
@@ -33,6 +36,7 @@ function found = rp_welfare(p, q, new, varargin)
         found(own).lower(row) = lower / unit;
         found(own).upper(row) = rp_numbers(rest(2)) / unit;
         found(own).at(row) = str2double(rest{4});
+        found(own).wide(row) = withheld(count, 1) && isempty(reason);
         if ~isempty(reason)
           found(own).reasons{end + 1} = strjoin(words, ' ');
         end

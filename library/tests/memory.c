@@ -35,32 +35,45 @@ typedef int32_t Call(
     uint8_t *, size_t, uint8_t *, size_t, uint64_t *, uint64_t *);
 
 static const char words[] = "analyse\0t.csv", names[] = "t.csv", panel_words[] = "t.csv\0--pump\0--wide";
+static const char demand_words[] = "t.csv\0--demand\0n.csv", welfare_words[] = "t.csv\0--welfare\0n.csv", two_names[] = "t.csv\0n.csv";
 static const char table[] = "p_a,q_a,p_b,q_b\n1,1,2,2\n2,2,1,1\n";
 /* One for which rp withholds a verdict, and rp-wide gives it. */
 static const char held[] = "p_a,q_a,p_b,q_b\n4194304,2097151,1,4194304\n1,1747627,3145727,2796203\n1,4194304,4194304,2097151\n";
 /* The same as those of one household, after one of another. */
 static const char panel[] = "household,p_a,q_a,p_b,q_b\nB,1,1,2,2\nA,4194304,2097151,1,4194304\n"
     "A,1,1747627,3145727,2796203\nA,1,4194304,4194304,2097151\n";
+/* Two households, of which one has bounds and the other violates the axiom. */
+static const char pair[] = "household,p_a,q_a,p_b,q_b\nA,1,2,2,1\nB,1,1,2,2\nB,2,2,1,1\nA,2,1,1,2\n";
 
-/* A call, the words and the text of the one file that it is made with, and the line where memory is short. */
+/* A call, the words, the names and the texts of the files that it is made with, and the line where memory is short. */
 typedef struct {
     Call *call;
     const char *words;
     size_t words_length;
-    const char *text, *line;
+    const char *names;
+    size_t names_length;
+    const char *texts[2], *line;
 } Kind;
 
 static const Kind kinds[] = {
-    {rp_answer, words, sizeof words, table, "rp: out of memory\n"},
-    {rp_answer_wide, words, sizeof words, held, "rp: out of memory\n"},
-    {rp_panel, panel_words, sizeof panel_words, panel, "rp-panel: out of memory\n"},
+    {rp_answer, words, sizeof words, names, sizeof names, {table, NULL}, "rp: out of memory\n"},
+    {rp_answer_wide, words, sizeof words, names, sizeof names, {held, NULL}, "rp: out of memory\n"},
+    {rp_panel, panel_words, sizeof panel_words, names, sizeof names, {panel, NULL}, "rp-panel: out of memory\n"},
+    {rp_panel, demand_words, sizeof demand_words, two_names, sizeof two_names, {pair, "p_a,p_b,m\n1,1,3\n"}, "rp-panel: out of memory\n"},
+    {rp_panel, welfare_words, sizeof welfare_words, two_names, sizeof two_names, {pair, "p_a,p_b\n1,1\n"}, "rp-panel: out of memory\n"},
 };
 
 static int32_t call(const Kind *kind, uint8_t *output, size_t room, uint64_t *length, uint8_t *told, uint64_t *told_length) {
-    uint64_t size = strlen(kind->text);
+    char bytes[512] = "";
+    uint64_t sizes[2];
+    size_t files = 0;
+    for (; files < 2 && kind->texts[files]; files++) {
+        sizes[files] = strlen(kind->texts[files]);
+        strcat(bytes, kind->texts[files]);
+    }
     return kind->call(
-        (const uint8_t *)kind->words, kind->words_length, (const uint8_t *)names, sizeof names, &size, 1,
-        (const uint8_t *)kind->text, size, output, room, told, 64, length, told_length);
+        (const uint8_t *)kind->words, kind->words_length, (const uint8_t *)kind->names, kind->names_length, sizes, files,
+        (const uint8_t *)bytes, strlen(bytes), output, room, told, 64, length, told_length);
 }
 
 /* The same of the call that names files; how often it was refused, or -1. */

@@ -6,12 +6,11 @@ import assert from "node:assert/strict";
 import { readFileSync } from "node:fs";
 import { test } from "node:test";
 import { boundOf } from "./answers.js";
-import { aboveThresholds, shareInWords } from "./benchmark.js";
+import { aboveThresholds, drawBehaviours, shareInWords } from "./benchmark.js";
 import { wordsOf } from "./command.js";
-import { amountsOf, behaviour, drawnTable, words } from "./draws.js";
+import { amountsOf, behaviour, drawnFile, words } from "./draws.js";
 import { commands, facts, limit, range } from "./facts.js";
 import { boundRows } from "./panel_questions.js";
-import { COLUMNS, rowAt, rowsOf, tableRecords } from "./panels.js";
 import { equalUtility, utilityOf } from "./pictures.js";
 import { nameBeside, withLevel } from "./questions.js";
 import {
@@ -31,6 +30,7 @@ import {
   sumSentences,
   walkInWords,
 } from "./reports.js";
+import { COLUMNS, panelWords, rowAt, rowsOf, tableRecords } from "./rows.js";
 import { Runs } from "./runs.js";
 import {
   WIDE,
@@ -399,6 +399,20 @@ test("the rows of households: their verdicts, or a fault; and what is no table o
   for (const output of wrong) assert.throws(() => rowsOf(output, asked), /gave no table of these households/);
 });
 
+test("the power of each household is a column of the same call, where it is asked", () => {
+  const [asked, power] = [{ households: ["u", "v"], unnamed: 0 }, { draws: 200, seed: "18446744073709551615" }];
+  const wanted = ["long.csv", "--id", "household", "--power", "200", "18446744073709551615", "--wide"];
+  assert.deepEqual(panelWords(power), wanted);
+  const output = (told) =>
+    `${HEAD}u,2,2,violated,4/5,0.800000,yes,violated,violated,,,${told},,,\nv,,,,,,,,,,,,ZeroPrice,2,3\n`;
+  const [u, v] = rowsOf(output("14/200"), asked, power);
+  assert.deepEqual([u.power, v.power], ["14/200", ""]);
+  for (const told of ["", "14/100", "14", "7/100"]) {
+    assert.throws(() => rowsOf(output(told), asked, power), /gave no table of these households/);
+  }
+  assert.throws(() => rowsOf(output("14/200"), asked), /gave no table of these households/);
+});
+
 test("a spreadsheet takes no id for a formula", () => {
   const ids = ["=1+1", "+a", "-a", "@a", "a=b", ""];
   assert.deepEqual(ids.map(forSpreadsheet), ["'=1+1", "'+a", "'-a", "'@a", "a=b", ""]);
@@ -421,8 +435,49 @@ test("the words of a seed and the drawn behaviours are those of the clients", ()
   }
   for (const seed of [-1, 1.5, 2 ** 32, NaN]) assert.throws(() => words(seed), /a seed is a whole number/);
   const table = new Purchases(parseRecords("p_a,q_a,p_b,q_b\n1.5,2,2,1\n", ","));
-  const text = new TextDecoder().decode(drawnTable(table, [[3, 4]]));
-  assert.equal(text, "p_1,q_1,p_2,q_2\n15,3,20,4\n");
+  const drawn = ["1", "2"].map((household, at) => ({ household, table, bundles: [[3 + at, 4]] }));
+  const text = new TextDecoder().decode(drawnFile(drawn));
+  assert.equal(text, "household,p_1,q_1,p_2,q_2\n1,15,3,20,4\n2,15,4,20,4\n");
+});
+
+/** A client that gives each household of a long file the same verdicts, or a fault; and what it was asked. */
+function longClient(fault = "") {
+  const asked = [];
+  const households = async (words, bytes) => {
+    const [names, ...records] = parseRecords(new TextDecoder().decode(bytes), ",");
+    const ids = [...new Set(records.map((it) => it[0]))];
+    asked.push({ words, names, records, ids });
+    const said = fault ? `${",".repeat(12)}${fault},,` : ",2,2,violated,4/5,0.800000,yes,violated,violated,,,,,,";
+    return { status: 0, output: HEAD + ids.map((it) => `${it}${said}\n`).join(""), told: "" };
+  };
+  return { asked, households };
+}
+
+test("drawn behaviours are households of long files, on the budgets of one table after another", async () => {
+  const tables = ["1,2,2,1", "3,1,1,2"].map((it) => () =>
+    new Purchases(parseRecords(`p_a,q_a,p_b,q_b\n${it}\n${it}\n`, ",")));
+  const [client, found] = [longClient(), []];
+  await drawBehaviours(client, tables, 7, 120, (rows) => found.push(...rows));
+  assert.deepEqual(found.map((it) => it.household), Array.from({ length: 120 }, (_, at) => String(at + 1)));
+  assert.deepEqual(found[0].efficiency, "4/5");
+  assert.deepEqual(client.asked.map((it) => it.ids.length), [50, 50, 20]);
+  assert.deepEqual(client.asked[0].words, ["long.csv", "--id", "household", "--wide"]);
+  assert.deepEqual(client.asked[0].names, ["household", "p_1", "q_1", "p_2", "q_2"]);
+  const prices = client.asked[1].records.map((it) => [it[0], it[1], it[3]]);
+  assert.deepEqual(prices.slice(0, 4), [["51", "1", "2"], ["51", "1", "2"], ["52", "3", "1"], ["52", "3", "1"]]);
+  const word = words(7);
+  const drawn = tables.map((it) => it()).flatMap((it) => behaviour(amountsOf(it), word));
+  const bundles = client.asked[0].records.slice(0, 4).map((it) => [Number(it[2]), Number(it[4])]);
+  assert.deepEqual(bundles, drawn);
+  const none = drawBehaviours(longClient("TooLarge"), tables, 7, 1, () => {});
+  await assert.rejects(none, /refuses a drawn table: TooLarge/);
+});
+
+test("behaviours of long tables are asked about a few at a time", async () => {
+  const text = `p_a,q_a\n${"2,3\n".repeat(512)}`;
+  const client = longClient();
+  await drawBehaviours(client, [() => new Purchases(parseRecords(text, ","))], 1, 9, () => {});
+  assert.deepEqual(client.asked.map((it) => it.ids.length), [4, 4, 1]);
 });
 
 test("drawn behaviour spends no more than was spent, and its shares are uniform", () => {

@@ -3,8 +3,6 @@
  * any number of threads may call at once.
  */
 
-static const char NO_MEMORY_LINE[] = "rp: out of memory\n";
-
 /* What a call is given: bytes or numbers that it reads, room that it fills, or a number that it sets. */
 typedef enum { BYTES, NUMBERS, ROOM, LENGTH } Kind;
 typedef struct {
@@ -82,18 +80,19 @@ static int32_t guarded(Instance *instance, Function *function, Argument *list, i
 }
 
 /* Tells that a call has no answer: each length is 0; or that of the line, where memory was short. */
-static void tells(const Argument *list, int count, int told, int32_t status) {
+static void tells(const Argument *list, int count, int told, const char *line, int32_t status) {
     for (int it = 0; it < count; it++)
         if (list[it].kind == LENGTH) *(uint64_t *)list[it].to = 0;
     if (status == RP_NO_MEMORY && told >= 0) {
-        size_t length = sizeof NO_MEMORY_LINE - 1, room = list[told].count;
-        memcpy(list[told].to, NO_MEMORY_LINE, length < room ? length : room);
+        size_t length = 0, room = list[told].count;
+        while (line[length]) length++;
+        memcpy(list[told].to, line, length < room ? length : room);
         *(uint64_t *)list[list[told].length].to = length;
     }
 }
 
-/* Makes an instance, calls it, and gives it back. `told` is the argument that takes lines, or -1. */
-static int32_t asks(Function *function, Argument *list, int count, int told) {
+/* Makes an instance, calls it, and gives it back. `told` is the argument that takes lines, or -1; `line` is that of memory. */
+static int32_t asks(Function *function, Argument *list, int count, int told, const char *line) {
     int32_t status = RP_NO_MEMORY;
     Instance *instance = (Instance *)calloc(1, sizeof *instance);
     u8 *data = instance ? (u8 *)calloc(FIRST_PAGES, PAGE) : NULL;
@@ -110,6 +109,6 @@ static int32_t asks(Function *function, Argument *list, int count, int told) {
         free(memory->data);
     }
     free(instance);
-    if (!is_answered) tells(list, count, told, status);
+    if (!is_answered) tells(list, count, told, line, status);
     return status;
 }

@@ -87,6 +87,7 @@ def arguments_of(name, parameters):
 def call(name, parameters):
     """Returns the C of one call."""
     lines, numbers, told = arguments_of(name, parameters)
+    program = "rp-panel" if name == "rp_panel" else "rp"
     given = ", ".join(["instance", *(f"given[{it}]" for it in range(numbers))])
     declared = ", ".join(f"{kind}{it}" for kind, it in parameters)
     return "\n".join(
@@ -99,7 +100,7 @@ def call(name, parameters):
             "    Argument list[] = {",
             *lines,
             "    };",
-            f"    return asks(call_{name}, list, (int)(sizeof list / sizeof *list), {told});",
+            f'    return asks(call_{name}, list, (int)(sizeof list / sizeof *list), {told}, "{program}: out of memory\\n");',
             "}",
             "",
         ]

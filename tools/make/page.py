@@ -10,7 +10,7 @@ from shared import TOP, text
 
 PAGE = f"{TOP}/page"
 # The page's modules, each after those that it takes names from.
-MODULES = ["facts", "sentences", "dom", "sheets", "reports", "says", "draws", "pictures", "runs", "client", "benchmark", "slots", "answers"]
+MODULES = ["facts", "sentences", "dom", "sheets", "reports", "says", "rows", "draws", "pictures", "runs", "client", "benchmark", "slots", "answers"]
 MODULES += ["panels", "questions", "panel_questions", "others", "command", "main"]
 EXAMPLES = ["experiment.csv", "contradiction.csv", "levels.csv", "panel/panel.csv", "budgets.csv", "choices.csv", "menus.csv", "technology.csv", "outputs.csv"]
 

@@ -1,30 +1,18 @@
 function rp_refuse(told, files)
 % RP_REFUSE  Raises the refusal of a file, as in 'rp: table.csv: ZeroPrice record 1 column 2', with what stands there and a hint.
-  name = regexp(told, '^rp: ([\w-]+\.\w+): ', 'tokens', 'once');
+  name = regexp(told, '^rp(?:-panel)?: ([\w-]+\.\w+): ', 'tokens', 'once');
   if isempty(name)
     name = '';
   else
     name = name{1};
   end
-  said = regexprep(told, '^rp: (?:[\w-]+\.\w+: )?', '');
+  said = regexprep(told, '^rp(?:-panel)?: (?:[\w-]+\.\w+: )?', '');
   fault = regexp(said, '^[A-Z]\w*(?=(?: (?:record|column|budget|menu|item) \d+)*$)', 'match', 'once');
   if isempty(fault)
     error('rp:Failed', 'the library refused the data, and said: %s', told);
   end
   where = rp_place(name, said, files);
-  hint = '';
-  if strcmp(fault, 'TooManyDecimals')
-    hint = [': at most 6 decimal places are taken, and a double such as 3.18 has more; nothing is rounded unasked: ', ...
-      '''Places'', [2 0] rounds prices and quantities to so many places, ''Numbers'', ''shortest'' takes the shortest decimal ', ...
-      'that gives the double back, and texts such as {''3.18''} are taken as they are'];
-  elseif strcmp(fault, 'TooLarge')
-    hint = ': prices, and quantities, are at most 9,999,999 in units of their last decimal place; fewer places leave more room';
-  elseif strcmp(fault, 'OwnLevels')
-    hint = ': this question is defined without levels';
-  elseif strcmp(fault, 'NeedUnit')
-    hint = ': say ''Per'', N for a number of units on each, which rounds the shares';
-  end
-  error(['rp:Refused:', fault], '%s%s%s', said, where, hint);
+  error(['rp:Refused:', fault], '%s%s%s', said, where, rp_hint(fault));
 end
 
 function where = rp_place(name, said, files)
@@ -38,13 +26,10 @@ function where = rp_place(name, said, files)
   if isempty(at) || isempty(own)
     return
   end
-  lines = regexp(files(own).text, '\n', 'split');
-  heads = regexp(lines{1}, ',', 'split');
-  fields = regexp(lines{1 + str2double(at{1})}, ',', 'split');
+  [fields, ends] = rp_fields(files(own).text);
+  starts = [0, find(ends)] + 1;
   column = str2double(at{2});
-  shown = fields{column};
-  if numel(shown) > 30
-    shown = [shown(1:30), '..'];
-  end
+  shown = rp_shown(fields{starts(1 + str2double(at{1})) + column - 1});
+  heads = fields(1:starts(2) - 1);
   where = sprintf(' (row %s of %s, column %s, value %s)', at{1}, name, heads{column}, shown);
 end

@@ -1,8 +1,8 @@
 function texts = rp_texts(numbers, what, how)
 % RP_TEXTS  Numbers as decimals: doubles exactly as they are, unless HOW says otherwise; whole types and texts as they are.
-% HOW is [] (exact), 'shortest', or how many places.
+% HOW is [] (exact), 'shortest', or how many places. They are fields of a file.
   if iscellstr(numbers)
-    texts = numbers;
+    texts = rp_field(numbers);
   elseif isinteger(numbers)
     texts = arrayfun(@(it) sprintf('%d', it), numbers, 'UniformOutput', false);
   elseif islogical(numbers)

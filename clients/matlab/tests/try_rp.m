@@ -40,11 +40,18 @@ same({d.garp, d.cycle, d.lower}, {false, [1 2 1], [NaN NaN]}, 'demand where the 
 v = rp_analyse(p, q);
 same({v.garp, v.ranks, v.efficiency, v.ccei, v.afriat}, {true, [1; 1], '1', 1, true}, 'a table that holds');
 d = rp_demand(p, q, [2 2], 6);
-same({d.lower, d.upper, d.inner, d.below, d.strict}, {[1 1], [2 2], [2 1], [1 2], zeros(1, 0)}, 'demand');
+same({d.lower, d.upper, d.inner, d.below, d.strict, d.wide}, {[1 1], [2 2], [2 1], [1 2], zeros(1, 0), false(2)}, 'demand');
 w = rp_welfare(p, q, [2 2]);
-same({w.lower, w.upper, w.at}, {[4; 4], [6; 6], [1; 2]}, 'welfare');
+same({w.lower, w.upper, w.at, w.wide}, {[4; 4], [6; 6], [1; 2], [false; false]}, 'welfare');
 w = rp_welfare(p, q, [0.5 0.5; 2 2]);
 same({w(1).lower, w(1).upper, w(2).lower}, {[1; 1], [1.5; 1.5], [4; 4]}, 'welfare in money');
+
+% What rp withholds and its wider edition gives is marked.
+[p, q] = deal([4194304 1; 1 3145727; 1 4194304], [2097151 4194304; 1747627 2796203; 4194304 2097151]);
+[v, w] = deal(rp_analyse(p, q), rp_analyse(p, q, 'Wide', false));
+same({islogical(v.homothetic), v.wide, w.homothetic, w.wide, fieldnames(w.reasons)}, {true, {'homothetic'}, NaN, {}, {'homothetic'}}, 'the wider edition');
+t = struct('home', {{'u'; 'u'; 'u'}}, 'p_a', p(:, 1), 'p_b', p(:, 2), 'q_a', q(:, 1), 'q_b', q(:, 2));
+same({rp_panel(t, 'home').homothetic, rp_panel(t, 'home', 'Wide', false).homothetic}, {v.homothetic, NaN}, 'the wider edition in a panel');
 
 % Levels of the observations' own.
 levels = rp_analyse([1 2; 2 1], [1 2; 2 1], 'Levels', [799 1000]);
@@ -77,15 +84,61 @@ refused(@() rp_analyse([1 1], [1 1 1]), 'rp:BadData', 'one size');
 refused(@() rp_analyse([1 1], [1 1], 'Level', 1), 'rp:BadData', 'the options here are');
 refused(@() rp_demand([1 1], [1 1], [1 0], 3), 'rp:Refused:ZeroPrice', 'new.csv');
 
+% Texts that are no numbers are fields of their own, whatever stands in them.
+refused(@() rp_analyse({'1,5', '1'}, {'1', '1'}), 'rp:Refused:BadNumber', 'record 1 column 1 (row 1 of table.csv, column p_1, value 1,5)');
+refused(@() rp_analyse({'1', '1'}, {sprintf('1\n9'), '1'}), 'rp:Refused:BadNumber', 'record 1 column 3');
+
 % A panel.
 t = struct('home', {{'u'; 'u'; 'v'; 'v'; 'z'}}, 'p_a', [1; 2; 1; 2; 0], 'p_b', [2; 1; 2; 1; 1], 'q_a', [1; 2; 2; 1; 1], 'q_b', [2; 1; 1; 2; 1]);
-r = rp_panel(t, 'home', 'Pump', true);
-same({r.key}, {'u', 'v', 'z'}, 'the households');
-same({r(1).garp, r(1).ccei, r(1).pump, r(2).garp, r(2).ccei, r(2).pump}, {false, 0.8, 0.2, true, 1, 0}, 'the panel');
-same(isnan(r(3).garp) && ~isempty(strfind(r(3).refusal, 'ZeroPrice')), true, 'a household that is refused');
+r = rp_panel(t, 'home', 'Pump', true, 'Power', 200, 'Seed', 7);
+same({r.home}, {'u', 'v', 'z'}, 'the households');
+same({r(1).observations, r(1).goods, r(1).garp, r(1).attained, r(1).homothetic, r(1).quasilinear}, {2, 2, false, true, false, false}, 'the verdicts of a household');
+same({r(1).efficiency, r(1).efficiency_floor, r(1).ccei, r(1).pump, r(1).pump_floor}, {'4/5', 0.8, 0.8, '1/5', 0.2}, 'the numbers of a household');
+same({r(2).garp, r(2).efficiency, r(2).pump, r(2).fault, r(2).record, r(2).refusal}, {true, '1', '0', '', NaN, ''}, 'a household that meets the axiom');
+same(r(1).power, sprintf('%d/200', rp_power([1 2; 2 1], [1 2; 2 1], 7, 200).violations), 'the power of a household');
+same({r(3).garp, r(3).efficiency, r(3).fault, r(3).record, r(3).column}, {NaN, '', 'ZeroPrice', 5, 2}, 'a household that is refused');
+same(~isempty(strfind(r(3).refusal, 'ZeroPrice at row 5, column p_a, value 0')), true, 'the refusal in words');
+r = rp_panel(t, 'home', 'Wide', false);
+same({r(1).pump, r(1).pump_floor, r(1).power}, {'', NaN, ''}, 'what was not asked');
 refused(@() rp_panel(t, 'house'), 'rp:WrongColumns', 'house');
-t.p_a(:) = 0;
-refused(@() rp_panel(t, 'home'), 'rp:Refused:All', 'ZeroPrice');
+refused(@() rp_panel(t, 'home', 'Power', 1.5), 'rp:BadData', 'whole number');
+
+% Rows without a household are none's, blanks round a key are cut, and keys may have any letters.
+odd = sprintf('x\ry,"z"');
+t = struct('home', {{'A'; ''; 'A '; odd; sprintf(' \t'); odd; 'A'; repmat('k', 1, 257)}}, 'p_a', [1; 1; 2; 1; 1; 2; 1; 1], 'p_b', [2; 1; 1; 2; 1; 1; 2; 1]);
+[t.q_a, t.q_b] = deal([1; 1; 2; 2; 1; 1; 1; 1], [2; 1; 1; 1; 1; 2; 2; 1]);
+r = rp_panel(t, 'home');
+same({r.home}, {'A', odd, '', sprintf(' \t'), t.home{8}}, 'the keys');
+same({r.observations, r(1).garp, r(2).garp}, {3, 2, NaN, NaN, NaN, false, true}, 'households with blanks round their keys');
+same({r.fault, r.record}, {'', '', 'NoId', 'NoId', 'LongId', NaN, NaN, 2, 5, 8}, 'rows without a household');
+t.town = [1; 1; 1; 2; 2; 2; NaN; 2];
+r = rp_panel(t, {'town', 'home'});
+same({r.town}, {1, 2, 1, 2, NaN, 2}, 'the first of two keys');
+same({r.observations}, {2, 2, NaN, NaN, NaN, NaN}, 'households by two keys');
+t.obs = [1; 1; 1; 1; 1; 2; 2; 1];
+r = rp_panel(t, 'home');
+same({r.fault}, {'Pooled', '', 'NoId', 'NoId', 'LongId'}, 'a label that stands twice');
+
+% Levels of the observations, numbers that are none, and households that all have one fault.
+t = struct('home', [3; 3], 'p_a', [1; 2], 'p_b', [2; 1], 'q_a', [1; 2], 'q_b', [2; 1], 'e', [799; 1000]);
+same({rp_panel(t, 'home').garp, rp_panel(t, 'home').home}, {true, 3}, 'own levels in a panel');
+refused(@() rp_panel(t, 'home', 'Pump', true), 'rp:Refused:All', 'OwnLevels');
+t = rmfield(t, 'e');
+t.p_a = {'1,5'; sprintf('1\n3,1,1,1,1')};
+t.p_b = {'1'; '1'};
+refused(@() rp_panel(t, 'home'), 'rp:Refused:All', 'BadNumber at row 1, column p_a, value 1,5');
+[t.p_a, t.home] = deal([3.18; 1], {'u'; 'v'});
+t.p_b = [1; 1];
+r = rp_panel(t, 'home');
+same({r.fault, r(1).record, r(1).column}, {'TooManyDecimals', '', 1, 2}, 'a double of many places in a panel');
+same({rp_panel(t, 'home', 'Numbers', 'shortest').fault}, {'', ''}, 'the shortest decimals in a panel');
+
+% More households than one call has.
+many = 450;
+t = struct('home', repelem((1:many)', 2), 'p_a', repmat([1; 2], many, 1), 'p_b', repmat([2; 1], many, 1));
+[t.q_a, t.q_b] = deal(repmat([1; 2; 2; 1], many / 2, 1), repmat([2; 1; 1; 2], many / 2, 1));
+r = rp_panel(t, 'home');
+same({[r.home], [r.garp]}, {1:many, repmat([false, true], 1, many / 2)}, 'the households of several calls');
 
 % The power of the test: the numbers of the program.
 same(rp_power([1 2; 2 1], [1 2; 2 1], 1, 200).draws, 200, 'the power');

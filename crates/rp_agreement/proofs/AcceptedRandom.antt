@@ -15,16 +15,17 @@ use Rattle.rp_patch.specs.RandomFailure.{RandomFails}
 use Rattle.rp_patch.specs.Types.{AreRationalTypes}
 use Rattle.rp_patch.proofs.TypeKinds.{are_whole}
 use Rattle.rp_random.specs.RandomVerdict.{IsRandomVerdict}
+use Rattle.rp_limits.specs.declared.patch.TheConstants.{PATCHES}
 use Rattle.rp_limits.specs.declared.types.TheConstants.{TYPES}
 
 one_or_none : (b : Bool) → unsigned_abs (if b then pos 1 else pos 0) ≤ largest_entry
 one_or_none true = omega arith
 one_or_none false = omega arith
 
-module _ (p : PatchList) (is : IsPatchList p) (types : List (List ℕ)) (few : length types ≤ TYPES) (all : AreRationalTypes p types) where
+module _ (p : PatchList) (is : IsPatchList p) (few_patches : length p.patches ≤ PATCHES) (types : List (List ℕ)) (few : length types ≤ TYPES) (all : AreRationalTypes p types) where
   within_limits : IsWithinLimits (random_program p types)
   within_limits = record {
-    rows_at_most = omega (arith, is.few_patches);
+    rows_at_most = omega (arith, few_patches);
     cols_at_most = omega (arith, few);
     a_bounded = λ i j i_in j_in. one_or_none (uses (slice_index_or types j []) i);
     b_bounded = λ i i_in. omega (arith, ints, is.units_within i i_in, is.few_units);

@@ -23,6 +23,7 @@ ghost use Rattle.rp_patch.specs.Patches.{IsPatchList, PatchList};
 ghost use Rattle.rp_patch.specs.RandomEvidence.{ProvesRandom};
 ghost use Rattle.rp_patch.specs.Types.{AreRationalTypes};
 ghost use Rattle.rp_random.specs.RandomVerdict.{IsRandomVerdict};
+ghost use Rattle.rp_limits.specs.declared.patch.TheConstants.{PATCHES};
 ghost use Rattle.rp_limits.specs.declared.types.TheConstants.{TYPES};
 
 /// The text of a certificate that can be read back denotes it, and nothing else but for want of memory.
@@ -48,8 +49,8 @@ pub fn certificates_agree()
 /// So is and can the certificate of random choices.
 pub fn random_certificates_agree()
     ensures accepted { (p : PatchList) (types : List (List ℕ)) (part : RandomPart)
-        → IsPatchList p → length types ≤ TYPES → AreRationalTypes p types
-        → IsRandomVerdict p types part
+        → IsPatchList p → length p.patches ≤ PATCHES → length types ≤ TYPES
+        → AreRationalTypes p types → IsRandomVerdict p types part
         → IsRandomCheckVerdict p (RandomItem p.total part ∷ []) Accepted }
     ensures readable { (p : PatchList) (types : List (List ℕ)) (part : RandomPart)
         → IsPatchList p → ProvesRandom p p.total part → IsRandomVerdict p types part

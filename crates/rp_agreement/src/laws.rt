@@ -45,6 +45,7 @@ ghost use Rattle.rp_support.specs.DemandVerdict.{IsDemandVerdict};
 ghost use Rattle.rp_table.specs.Limits.{IsExpenditure};
 ghost use Rattle.rp_table.specs.NewPrices.{AreNewPrices};
 ghost use Rattle.rp_table.specs.Tables.{IsTable, Observations};
+ghost use Rattle.rp_limits.specs.declared.patch.TheConstants.{PATCHES};
 ghost use Rattle.rp_limits.specs.declared.table.TheConstants.{RECORDS};
 ghost use Rattle.rp_limits.specs.declared.types.TheConstants.{TYPES};
 ghost use Rattle.rp_welfare.specs.WelfareVerdict.{IsWelfareVerdict};
@@ -138,8 +139,9 @@ pub fn welfare_agrees()
 /// So it is with what is given for random choices.
 pub fn random_agrees()
     ensures accepted { (p : PatchList) (types : List (List ℕ)) (part : RandomPart)
-        → IsPatchList p → length types ≤ TYPES → AreRationalTypes p types
-        → IsRandomVerdict p types part → PassesCheck (RandomFails p p.total part) }
+        → IsPatchList p → length p.patches ≤ PATCHES → length types ≤ TYPES
+        → AreRationalTypes p types → IsRandomVerdict p types part
+        → PassesCheck (RandomFails p p.total part) }
     ensures readable { (p : PatchList) (types : List (List ℕ)) (part : RandomPart)
         → IsPatchList p → ProvesRandom p p.total part → IsRandomVerdict p types part
         → FitsRandom p.total part }

@@ -61,7 +61,8 @@ place_of base (suc left) (x ∷ xs) = (x + 1) * base ^ left + place_of base left
 abbrev pub place_in : PatchList → List ℕ → ℕ
 place_in p front = place_of (length p.patches + 2) p.budgets front
 
--- Patches come before others: they are the first of these, but not all, or have a lesser patch where they first differ.
+-- Patches come before others: they are the first of these, but not all of them, or have a lesser patch where they first
+-- differ.
 abbrev pub Earlier : List ℕ → List ℕ → Type 0
 Earlier front [] = ⊥
 Earlier [] (i ∷ rest) = ⊤

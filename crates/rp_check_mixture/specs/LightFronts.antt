@@ -6,9 +6,9 @@ use Rattle.rp_patch.specs.PartialTypes.{Before, Begins, IsRationalBelow}
 use Rattle.rp_patch.specs.Patches.{PatchList}
 use Rattle.rp_patch.specs.Types.{IsRationalType, IsType}
 
--- A patch of each of the first budgets, of one at least but not of all, without a violation among these: some type that
--- begins with them weighs less than `least`, rational or not, and each rational type that comes before them weighs
--- enough.
+-- A patch of each of the first budgets, of one at least but not of all, without a violation among these: some type
+-- that begins with them weighs less than `least`, rational or not, and each rational type that comes before them
+-- weighs enough.
 pub record IsLightFront (p : PatchList) (weights : List ℕ) (least : ℕ) (front : List ℕ)
     : Type 0 where
   pub some : 0 < length front

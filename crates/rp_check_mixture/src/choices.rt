@@ -86,8 +86,8 @@ fn check_evidence_within(
 }
 
 /// Checks evidence on random choices as `check_choices` does, where there may be too many types to weigh them all:
-/// weights of the patches that want a search of more steps than these fail by that. A step is a light front: a patch of
-/// each of some first budgets without a violation, with which some type begins that is too light.
+/// weights of the patches that want a search of more steps than these fail by that. A step is a light front: a patch
+/// of each of some first budgets without a violation, with which some type begins that is too light.
 pub fn check_choices_within(
     patches: &Patches,
     total: u64,

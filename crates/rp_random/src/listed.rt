@@ -3,6 +3,7 @@ ghost use Rattle.std.specs.Prelude.{◌≡◌, ◌≤◌, length};
 ghost use Rattle.rp_farkas.specs.Limits.{IsWithinLimits};
 ghost use Rattle.rp_patch.specs.Mixtures.{random_program};
 ghost use Rattle.rp_types.specs.Listed.{types_of};
+ghost use Rattle.rp_limits.specs.declared.patch.TheConstants.{PATCHES};
 ghost use Rattle.rp_limits.specs.declared.types.TheConstants.{TYPES};
 
 use rp_find_mixture::Listed;
@@ -21,7 +22,8 @@ pub struct ListedTypes<'a> {
 impl<'a> ListedTypes<'a> {
     /// These types on these patches; no memory is taken.
     pub fn make(patches: &'a Patches, types: &'a [Rational]) -> ListedTypes<'a>
-        requires { length types.now ≤ TYPES }
+        requires few_patches { length patches.now.patches ≤ PATCHES }
+        requires few { length types.now ≤ TYPES }
         ensures patches { result.patches.now ≡ patches.now }
         ensures types { result.types.now ≡ types.now }
     {

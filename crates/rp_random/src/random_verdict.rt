@@ -8,6 +8,7 @@ ghost use Rattle.rp_patch.specs.Types.{AreRationalTypes};
 ghost use Rattle.rp_persons.specs.SaysRandom.{SaysOfChoices};
 ghost use Rattle.rp_random.specs.RandomVerdict.{IsRandomVerdict};
 ghost use Rattle.rp_types.specs.Listed.{types_of};
+ghost use Rattle.rp_limits.specs.declared.patch.TheConstants.{PATCHES};
 ghost use Rattle.rp_limits.specs.declared.types.TheConstants.{TYPES};
 
 use crate::listed::ListedTypes;
@@ -29,6 +30,7 @@ pub fn random(
     types: &Seq<Rational>,
 ) -> Result<RandomPart, NoMemory>
     requires all { AreRationalTypes patches.now (types_of types.now) }
+    requires few_patches { length patches.now.patches ≤ PATCHES }
     requires few { length types.now ≤ TYPES }
     ensures proves { IfOk result (ProvesRandom patches.now patches.now.total) }
     ensures share { IfOk result (ShowsShare patches.now) }

@@ -4,6 +4,8 @@
 
 mod bound;
 mod choice;
+mod grown;
+mod grown_readout;
 mod pivot;
 mod readout;
 mod run;
@@ -11,4 +13,5 @@ mod signed;
 mod tableau;
 
 pub use bound::whole_bound_of;
+pub use grown::Grown;
 pub use run::MOST_PIVOTS;

@@ -4,9 +4,39 @@ use crate::tableau::{Tableau, entry_at};
 use rp_num::NoMemory;
 use std::alloc::Global;
 
+/// The quotient of two numbers, by a word's division where both are of one word.
+fn quotient(n: i128, by: i64) -> i128 {
+    match i64::try_from(n) {
+        Ok(n) if by > 0 => i128::from(n / by),
+        _ => n.checked_div(i128::from(by)).unwrap_or(0),
+    }
+}
+
+/// The entry after a pivot as below, where all numbers are of one word: in two words the products and their difference
+/// are exact.
+fn renewed_in_words(
+    entry: i128,
+    pivot: i128,
+    factor: i128,
+    across: i128,
+    by: u128,
+) -> Option<i128> {
+    let by = i64::try_from(by).ok()?;
+    let kept = i128::from(i64::try_from(entry).ok()?).wrapping_mul(i128::from(i64::try_from(
+        pivot,
+    ).ok()?));
+    let taken = i128::from(i64::try_from(factor).ok()?).wrapping_mul(i128::from(i64::try_from(
+        across,
+    ).ok()?));
+    Some(quotient(kept.wrapping_sub(taken), by))
+}
+
 /// The entry after a pivot: times the pivot, less what its row has in the pivot's column times what the pivot's row has
 /// in its own, divided by the last pivot. None where that is no whole number below 2^127.
 fn renewed(entry: i128, pivot: i128, factor: i128, across: i128, by: u128) -> Option<i128> {
+    if let Some(found) = renewed_in_words(entry, pivot, factor, across, by) {
+        return Some(found);
+    }
     let found = difference(product(entry, pivot), product(factor, across))?;
     entry_of(found, by)
 }
@@ -15,6 +45,9 @@ fn renewed(entry: i128, pivot: i128, factor: i128, across: i128, by: u128) -> Op
 fn renew_row(row: &mut [i128], pivot_row: &[i128], c: usize, by: u128) -> bool {
     let pivot = entry_at(pivot_row, c);
     let factor = entry_at(row, c);
+    if factor == 0 && pivot.unsigned_abs() == by {
+        return true;
+    }
     for j in 0..row.len() {
         match renewed(row[j], pivot, factor, entry_at(pivot_row, j), by) {
             Some(entry) => row[j] = entry,

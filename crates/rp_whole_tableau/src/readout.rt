@@ -5,7 +5,7 @@ use rp_num::{NoMemory, Seq, gcd};
 use std::alloc::Global;
 
 /// A number divided by the common divisor, where it is not negative and within the width of evidence.
-fn reduced(n: i128, common: u128) -> Option<u64> {
+pub fn reduced(n: i128, common: u128) -> Option<u64> {
     if n < 0 || common == 0 {
         return None;
     }
@@ -43,7 +43,7 @@ fn common_divisor(t: &Tableau) -> u128 {
 }
 
 /// The prices: the slack entries of the objective row.
-fn prices(alloc: Global, t: &Tableau, common: u128) -> Result<Option<Vec<u64>>, NoMemory> {
+pub fn prices(alloc: Global, t: &Tableau, common: u128) -> Result<Option<Vec<u64>>, NoMemory> {
     let objective = t.basis.len();
     let mut prices = Vec::new(alloc);
     for s in 0..objective {

@@ -1,6 +1,6 @@
-//! Weights of the patches, looked at within a number of steps. The steps are counted by hand: a step is a patch of some
-//! first budgets, but not of all, without a violation, with which some type begins that weighs too little, rational or
-//! not, and before which no such rational type comes.
+//! Weights of the patches, looked at within a number of steps. The steps are counted by hand: a step has a patch of
+//! each of some first budgets, but not of all, without a violation, with which some type begins that weighs too
+//! little, rational or not, and before which no such rational type comes.
 ghost use Rattle.std.specs.Prelude.{All};
 ghost use Rattle.rp_evidence.specs.Kinds.{IsOfKind};
 ghost use Rattle.rp_evidence.specs.declared.certificate.Kind.TheVariants.{Random as RandomKind};
@@ -61,9 +61,9 @@ const TWO_BUDGETS: &str = "\
 
 /// Patches 2 and 5 are a violation, as are those of any type that ends with 8 and has no 4 before it, or has 1 and 4.
 ///
-/// The steps of the first two: 0, 1 and 2; with each of these 3, and with 0 and 1 also 5. Of the next two, of which 0 3
-/// 6 is too light: 0 and 0 3. Of the next, of which 0 4 8 is the first too light: 0, 0 3 and 0 4. Of the last, of which
-/// 2 4 8 is: 1, with each of the three after it, and 2, 2 3 and 2 4.
+/// The steps of the first two: 0, 1 and 2; with each of these 3, and with 0 and 1 also 5. Of the next two, in which
+/// 0 3 6 is too light: 0 and 0 3. Of the next two, in which 0 4 8 is the first that is: 0, 0 3 and 0 4. Of the last, in
+/// which 2 4 8 is the only one: 1, with each of the three after it, and 2, 2 3 and 2 4.
 const THREE_BUDGETS: &str = "\
 7 steps 3;1; ; 0 0 0 0 1 0 1 1 0 => Steps 0
 8 steps 3;1; ; 0 0 0 0 1 0 1 1 0 => Least 0

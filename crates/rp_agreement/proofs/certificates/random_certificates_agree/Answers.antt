@@ -6,7 +6,7 @@ use Rattle.rp_agreement.proofs.SameValues.{text_read_back}
 use Rattle.rp_agreement.proofs.certificates.random_certificates_agree.Goals as goal
 
 pub returns-clause-accepted : goal.returns-clause-accepted
-returns-clause-accepted c = λ p types part is few all. random_certificate_passes p is types few all part
+returns-clause-accepted c = λ p types part is few_patches few all. random_certificate_passes p is few_patches types few all part
 
 pub returns-clause-readable : goal.returns-clause-readable
 returns-clause-readable c = random_readable

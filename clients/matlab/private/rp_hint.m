@@ -1,0 +1,25 @@
+function hint = rp_hint(fault)
+% RP_HINT  What to do about a fault, behind a colon; nothing where there is nothing to say.
+  switch fault
+    case 'TooManyDecimals'
+      hint = [': at most 6 decimal places are taken, and a double such as 3.18 has more; nothing is rounded unasked: ', ...
+        '''Places'', [2 0] rounds prices and quantities to so many places, ''Numbers'', ''shortest'' takes the shortest decimal ', ...
+        'that gives the double back, and texts such as {''3.18''} are taken as they are'];
+    case 'TooLarge'
+      hint = ': prices, and quantities, are at most 9,999,999 in units of their last decimal place; fewer places leave more room';
+    case 'OwnLevels'
+      hint = ': this question is defined without levels';
+    case 'NeedUnit'
+      hint = ': say ''Per'', N for a number of units on each, which rounds the shares';
+    case 'NoId'
+      hint = ': a row without a household is none''s: give it the name of its household, or leave it out';
+    case 'LongId'
+      hint = ': the name of a household has at most 256 bytes';
+    case 'TooManyRecords'
+      hint = ': a table, or a household, has at most 512 rows: name more columns that tell households apart';
+    case 'Pooled'
+      hint = ': a label of obs stands there twice, as where several households are one: name more columns that tell them apart';
+    otherwise
+      hint = '';
+  end
+end
