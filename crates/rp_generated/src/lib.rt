@@ -1,26 +1,12 @@
-//! A stub: the search by generated types.
+//! Random utility by generated types: types that are too light by the prices so far are added to a program, until there
+//! is none, so all rational types need never be listed (Smeulders, Cherchye and De Rock 2021). What is found is given
+//! only where the checker takes it.
 #![tactic(auto)]
 
-ghost use Rattle.std.specs.Prelude.{◌≤◌, IfOk, Ok};
-ghost use Rattle.rp_check_mixture.specs.RandomWithin.{RandomFailsWithin};
-ghost use Rattle.rp_generated.specs.Withheld.{WithheldAt};
-ghost use Rattle.rp_limits.specs.declared.generated.TheConstants.{STEPS};
-ghost use Rattle.rp_patch.specs.RandomEvidence.{ProvesRandom, ShowsShare};
-ghost use Rattle.rp_persons.specs.SaysRandom.{SaysOfChoices};
+mod generated_verdict;
+mod lightest;
+mod parts;
+mod prices;
+mod rounds;
 
-use rp_evidence::RandomPart;
-use rp_num::NoMemory;
-use rp_patch::Patches;
-use std::alloc::Global;
-
-/// Whether some mixture of rational types makes the choices, by types that are generated.
-pub fn generated(_alloc: Global, _patches: &Patches) -> Result<RandomPart, NoMemory>
-    ensures proves { IfOk result (ProvesRandom _patches.now _patches.now.total) }
-    ensures share { IfOk result (ShowsShare _patches.now) }
-    ensures says { IfOk result (SaysOfChoices _patches.now) }
-    ensures accepted { IfOk result (λ part.
-        RandomFailsWithin _patches.now _patches.now.total part STEPS (Ok tt)) }
-    ensures steps { IfOk result (λ part. WithheldAt part (λ step. step ≤ STEPS)) }
-{
-    Err(NoMemory)
-}
+pub use generated_verdict::generated;

@@ -14,6 +14,8 @@ mod forgeries;
 #[cfg(test)]
 mod limits;
 #[cfg(test)]
+mod many;
+#[cfg(test)]
 mod mixtures;
 #[cfg(test)]
 mod reports;

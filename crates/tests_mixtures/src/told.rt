@@ -1,5 +1,6 @@
 //! What budgets and choices in files come to, in a line.
-ghost use Rattle.std.specs.Prelude.{◌≤◌, IfSome};
+ghost use Rattle.std.specs.Prelude.{◌≤◌, IfSome, length};
+ghost use Rattle.rp_limits.specs.declared.patch.TheConstants.{PATCHES};
 
 use rp_evidence::{RandomPart, Share};
 use rp_limits::patch::UNITS;
@@ -127,14 +128,18 @@ fn told_types(alloc: Global, ask: Ask, made: &Patches) -> Result<String, AllocEr
     format!(in alloc; "{patches} patches, {types} types")
 }
 
-fn told_evidence(alloc: Global, made: &Patches) -> Result<String, Fail> {
+fn told_evidence(alloc: Global, made: &Patches) -> Result<String, Fail>
+    requires { length made.now.patches ≤ PATCHES }
+{
     let types = rational_types(alloc, made)?;
     let part = random(alloc, made, &types)?;
     Ok(evidence_text(alloc, &part)?)
 }
 
 /// What these patches come to.
-fn told_of(alloc: Global, ask: Ask, made: &Patches) -> Result<String, Fail> {
+fn told_of(alloc: Global, ask: Ask, made: &Patches) -> Result<String, Fail>
+    requires { length made.now.patches ≤ PATCHES }
+{
     match ask {
         Ask::Patches => Ok(patches_text(alloc, made)?),
         Ask::PatchCount => {
@@ -147,7 +152,7 @@ fn told_of(alloc: Global, ask: Ask, made: &Patches) -> Result<String, Fail> {
 }
 
 /// The fault, with its budget from 1.
-fn told_fault(alloc: Global, fault: PatchFault) -> Result<String, AllocError> {
+pub(crate) fn told_fault(alloc: Global, fault: PatchFault) -> Result<String, AllocError> {
     match fault {
         PatchFault::TooManyPatches { budget } | PatchFault::NeedUnit { budget } => {
             let budget = u64::from(budget) + 1;

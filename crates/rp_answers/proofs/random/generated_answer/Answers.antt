@@ -10,7 +10,7 @@ use Rattle.rp_evidence.specs.declared.certificate.Certificate.{Certificate}
 use Rattle.rp_evidence.specs.declared.certificate.Kind.TheVariants.{Random as RandomKind}
 use Rattle.rp_evidence.specs.declared.random.RandomPart.{RandomPart}
 use Rattle.rp_evidence.specs.declared.random.RandomPart.TheVariants.{Wide}
-use Rattle.rp_generated.specs.Withheld.{WithheldAt}
+use Rattle.rp_generated.specs.Steps.{WithheldAt}
 use Rattle.rp_json_entries.specs.Reading.{FitsLong}
 use Rattle.rp_limits.specs.declared.generated.TheConstants.{STEPS}
 use Rattle.rp_patch.specs.Patches.{PatchList}
