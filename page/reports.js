@@ -240,7 +240,7 @@ export const FAULTS = {
       "blanks.",
   BadChoice: "This is not one letter of the menu.",
   NoMenus: "Every n is 0, so nothing was chosen.",
-  TooManyCells: `There are more than ${written("patch.places")} pairs of a menu and a choice: ask about fewer menus.`,
+  TooManyCells: `There are more than ${written("menu.cells")} pairs of a menu and a choice: ask about fewer menus.`,
   TooManyPatches: `The budgets have more than ${written("patch.patches")} patches: ask about fewer budgets.`,
   TooManyCombinations:
     `A patch of each budget can be taken in more than ${written("types.combinations")} ways: ask about fewer budgets.`,

@@ -40,7 +40,7 @@ HINTS = {
     "BadMenu": f"a menu is one to {LIMITS['menu.letters']} of the letters from a on, each after the one before it, without blanks",
     "BadChoice": "the letter that was chosen is one of its menu",
     "NoMenus": "every n is 0, so nothing was chosen",
-    "TooManyCells": f"there are more than {LIMITS['patch.places']} pairs of a menu and a choice: ask about fewer menus",
+    "TooManyCells": f"there are more than {LIMITS['menu.cells']} pairs of a menu and a choice: ask about fewer menus",
     "NotJson": "a certificate is JSON in UTF-8",
     "BadVersion": "a certificate has the version 1, or with levels 2",
     "BadShape": "the item is none of its kind, or has a number that no item has; item 0 is the certificate as a whole",
