@@ -1,5 +1,5 @@
 /*
- * rp.h - revealed preference, as calls over files in memory, and one that tells which files they need.
+ * rp.h - revealed preference, as calls over files in memory, and two that tell which files they need.
  *
  * `rp_answer` answers as the command `rp` does, to the same words over files of the same bytes, `rp_answer_wide` as
  * `rp-wide`, and `rp_panel` as `rp-panel`. No call reads a file, prints, starts a thread or keeps anything between
@@ -112,6 +112,15 @@ int32_t rp_panel(
  * RP_MALFORMED where the last is not ended, and RP_NO_MEMORY: of these no name is told.
  */
 int32_t rp_files(
+    const uint8_t *words, size_t words_length,
+    uint8_t *names, size_t names_room,
+    uint64_t *names_length);
+
+/*
+ * Tells which files the words of `rp-panel` name, so that they can be read and given to `rp_panel`, which takes the same
+ * words: LONG, and after it NEW where it is named. All else is as of `rp_files`.
+ */
+int32_t rp_panel_files(
     const uint8_t *words, size_t words_length,
     uint8_t *names, size_t names_room,
     uint64_t *names_length);

@@ -127,6 +127,11 @@ for (const [words, files] of calls) {
 }
 expect(namesOf(["demand", "--json", "t.csv", "é.csv"]) === '{"status":0,"names":["t.csv","é.csv"]}', "demand's files");
 expect(namesOf(["trial", "1", "2", "3"]) === '{"status":0,"names":[]}', "a trial's files");
+const panelNamesOf = (words) => JSON.stringify(library.panelFiles(words));
+const ofBounds = panelNamesOf(["l.csv", "--keep", "a", "--demand", "é.csv", "--wide"]);
+expect(ofBounds === '{"status":0,"names":["l.csv","é.csv"]}', "the files of bounds of a panel");
+expect(panelNamesOf(["l.csv", "--pump"]) === '{"status":0,"names":["l.csv"]}', "the file of a panel");
+expect(panelNamesOf(["--pump", "l.csv"]) === '{"status":2,"names":[]}', "the files of words that are none of rp-panel");
 expect(namesOf(["pairs"]) === '{"status":2,"names":[]}', "the files of words that are no line");
 const long = "x".repeat(10000);
 expect(namesOf(["check", long, long]) === JSON.stringify({ status: 0, names: [long, long] }), "long names");

@@ -1,8 +1,8 @@
-/* The command `rp` where the program is not built by Rattle's own tools: it hands the words and the files to `rp_answer` of
-   the library, and writes what that answers. Where the program is called by the name `rp-wide` it is that command, by
-   `rp_answer_wide`.
+/* The commands `rp`, `rp-wide` and `rp-panel` where they are not built by Rattle's own tools: by the name under which this
+   program is called it is one of them, else `rp`. It hands the words and the files to that command's call of the library,
+   and writes what the call answers.
 
-   The library tells which files the words name, and they are read in that order. The command refuses a file before it reads
+   The library tells which files the words name, and they are read in that order. A command refuses a file before it reads
    the next; so where one cannot be read, an earlier one may have to be refused all the same: that is so where the answer is
    the same whatever stands in the files from there on, of which two contents are tried that no file may have. */
 #include "system.h"
@@ -15,14 +15,28 @@
 typedef int32_t Call(const uint8_t *words, size_t words_length, const uint8_t *names, size_t names_length,
                      const uint64_t *sizes, size_t files, const uint8_t *bytes, size_t bytes_length, uint8_t *output,
                      size_t output_room, uint8_t *told, size_t told_room, uint64_t *output_length, uint64_t *told_length);
-Call rp_answer, rp_answer_wide;
-int32_t rp_files(const uint8_t *words, size_t words_length, uint8_t *names, size_t names_room, uint64_t *names_length);
+Call rp_answer, rp_answer_wide, rp_panel;
+typedef int32_t Naming(const uint8_t *words, size_t words_length, uint8_t *names, size_t names_room, uint64_t *names_length);
+Naming rp_files, rp_panel_files;
 
 enum { REFUSED = 4, WRITE_FAULT = 5, NO_MEMORY = 6 };
-/* No command takes more of them. */
+/* No command takes more files. */
 enum { MOST_FILES = 8 };
-/* One more than the most bytes that a file may have. */
-#define MOST_READ 16777217u
+
+/* A command: the name under which this program is it, the one in its own lines, the calls that answer its words and tell
+   which files they name, and one more than the most bytes that a file may have. */
+typedef struct {
+    const char *name, *told_as;
+    Call *call;
+    Naming *naming;
+    size_t most_read;
+} Command;
+
+static const Command COMMANDS[] = {
+    {"rp", "rp", rp_answer, rp_files, 16777217},
+    {"rp-wide", "rp", rp_answer_wide, rp_files, 16777217},
+    {"rp-panel", "rp-panel", rp_panel, rp_panel_files, 67108865},
+};
 
 /* Bytes that grow. */
 typedef struct {
@@ -30,9 +44,9 @@ typedef struct {
     size_t length, room;
 } Bytes;
 
-/* What is asked: by which call, the words, and the files that are given. */
+/* What is asked: of which command, the words, and the files that are given. */
 typedef struct {
-    Call *call;
+    const Command *command;
     Bytes words, names, bytes;
     uint64_t sizes[MOST_FILES];
     size_t files;
@@ -65,22 +79,23 @@ static bool append(Bytes *it, const void *from, size_t count) {
     return true;
 }
 
-/* Tells a line on standard error, whose failures change no status. */
-static void tell(const char *line) {
-    write_told((const uint8_t *)line, strlen(line));
+/* Tells a text on standard error, whose failures change no status. */
+static void tell(const char *text) {
+    write_told((const uint8_t *)text, strlen(text));
 }
 
-static int without_memory(void) {
-    tell("rp: out of memory\n");
-    return NO_MEMORY;
+/* Tells a line of the command's own. */
+static void tell_line(const Command *command, const char *line) {
+    tell(command->told_as);
+    tell(line);
 }
 
 /* Asks the library once. The lengths are set to the whole ones, whatever the room is. */
 static void ask(const Question *asked, Answer *given) {
     uint64_t output_length = 0, told_length = 0;
-    given->status = asked->call(asked->words.at, asked->words.length, asked->names.at, asked->names.length, asked->sizes,
-                                asked->files, asked->bytes.at, asked->bytes.length, given->output.at, given->output.room,
-                                given->told.at, given->told.room, &output_length, &told_length);
+    given->status = asked->command->call(asked->words.at, asked->words.length, asked->names.at, asked->names.length,
+                                         asked->sizes, asked->files, asked->bytes.at, asked->bytes.length, given->output.at,
+                                         given->output.room, given->told.at, given->told.room, &output_length, &told_length);
     given->output.length = (size_t)output_length;
     given->told.length = (size_t)told_length;
 }
@@ -111,7 +126,7 @@ static bool ask_whole(const Question *asked, Answer *given) {
 static bool ask_names(const Question *asked, Bytes *wanted) {
     for (;;) {
         uint64_t length = 0;
-        int32_t status = rp_files(asked->words.at, asked->words.length, wanted->at, wanted->room, &length);
+        int32_t status = asked->command->naming(asked->words.at, asked->words.length, wanted->at, wanted->room, &length);
         wanted->length = (size_t)length;
         if (status == NO_MEMORY)
             return false;
@@ -137,7 +152,7 @@ static FileRead read_into(Question *asked, const char *name) {
     FileRead opened = open_file(&file, name);
     if (opened != FILE_READ)
         return opened;
-    size_t before = asked->bytes.length, most = before + MOST_READ;
+    size_t before = asked->bytes.length, most = before + asked->command->most_read;
     FileRead ended = FILE_READ;
     while (asked->bytes.length < most) {
         size_t count = 0, want = most - asked->bytes.length < 65536 ? most - asked->bytes.length : 65536;
@@ -218,40 +233,62 @@ static bool answer(Question *asked, Answer *given) {
         if (ended == FILE_FAILED)
             return answer_unread(asked, &wanted, name, given);
     }
+    /* A table is rarely longer than its file, and without that room it would be made twice. */
+    (void)reserve(&given->output, asked->bytes.length);
     return ask_whole(asked, given);
 }
 
-static int finish(const Answer *given) {
-    if (given->output.length && !write_output(given->output.at, given->output.length)) {
-        tell("rp: write failed\n");
-        return WRITE_FAULT;
-    }
+/* Writes an answer. What is told beside an output stands before it. */
+static int finish(const Command *command, const Answer *given) {
     if (given->told.length)
         write_told(given->told.at, given->told.length);
+    if (given->output.length && !write_output(given->output.at, given->output.length)) {
+        tell_line(command, ": write failed\n");
+        return WRITE_FAULT;
+    }
     return given->status;
 }
 
-/* Whether a program's name, with folders before it or without, is `rp-wide` or `rp-wide.exe`, in letters of either size. */
-static bool is_wide(const char *name) {
-    static const char wanted[] = "rp-wide.exe";
+/* What follows this beginning of a text, in letters of either size, or nothing where the text begins otherwise. */
+static const char *after(const char *text, const char *beginning) {
+    for (; *beginning; text++, beginning++)
+        if ((*text | ('A' <= *text && *text <= 'Z' ? 32 : 0)) != *beginning)
+            return NULL;
+    return text;
+}
+
+/* Whether a file's name, without folders, is that of a command, or the same with `.exe`. */
+static bool is_named(const char *file, const char *command) {
+    const char *rest = after(file, command), *end = rest ? after(rest, ".exe") : NULL;
+    return rest && (!*rest || (end && !*end));
+}
+
+/* The command that a program's name is, with folders before it or without. */
+static const Command *command_of(const char *name) {
     for (const char *it = name; *it; it++)
         if (*it == '/' || *it == '\\')
             name = it + 1;
-    size_t length = strlen(name), at = 0;
-    while (at < length && at < sizeof wanted - 1 && (name[at] | ('A' <= name[at] && name[at] <= 'Z' ? 32 : 0)) == wanted[at])
-        at++;
-    return at == length && (length == 7 || length == sizeof wanted - 1);
+    for (size_t at = 0; at < sizeof COMMANDS / sizeof *COMMANDS; at++)
+        if (is_named(name, COMMANDS[at].name))
+            return &COMMANDS[at];
+    return COMMANDS;
+}
+
+int without_memory(const char *name) {
+    tell_line(command_of(name), ": out of memory\n");
+    return NO_MEMORY;
 }
 
 /* Answers the words, each in UTF-8, of which the first is the program's name. */
 int program(int count, char **words) {
-    Question asked = {.call = count > 0 && is_wide(words[0]) ? rp_answer_wide : rp_answer};
+    const char *name = count > 0 ? words[0] : "";
+    Question asked = {.command = command_of(name)};
     Answer given = {0};
     bool fits = reserve(&asked.words, 1) && reserve(&asked.names, 1) && reserve(&asked.bytes, 1)
                 && reserve(&given.output, 65536) && reserve(&given.told, 4096);
     for (int at = 1; fits && at < count; at++)
         fits = append(&asked.words, words[at], strlen(words[at]) + 1);
     if (!fits || !answer(&asked, &given))
-        return without_memory();
-    return finish(&given);
+        return without_memory(name);
+    return finish(asked.command, &given);
 }

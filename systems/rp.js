@@ -93,11 +93,11 @@ function ask(room, frame, outputRoom, toldRoom) {
   return { status, outputLength, toldLength, isWhole, texts };
 }
 
-/** Asks once which files the words name, with this much room for their names. */
-function askNames(room, words, namesRoom) {
+/** Asks a call once which files the words name, with this much room for their names. */
+function askNames(room, call, words, namesRoom) {
   const [given, names, length] = [room.put(words), room.take(namesRoom), room.take(8)];
   if (![given, names, length].every(Boolean)) return null;
-  const status = room.exports.rp_files(...[given, words.length, names, namesRoom, length].map(BigInt));
+  const status = room.exports[call](...[given, words.length, names, namesRoom, length].map(BigInt));
   const namesLength = room.number(length);
   return { status, namesLength, names: namesLength <= namesRoom ? room.copy(names, namesLength) : null };
 }
@@ -160,10 +160,19 @@ class Library {
    * There is no name where the words are no line (2) or memory is short (6).
    */
   files(words) {
+    return this.#files("rp_files", words);
+  }
+
+  /** The same of the words of `rp-panel`: the long file, and that of new prices where bounds are asked. */
+  panelFiles(words) {
+    return this.#files("rp_panel_files", words);
+  }
+
+  #files(call, words) {
     const framed = joined(words.map(ended));
     let namesRoom = 4096;
     for (;;) {
-      const given = this.#call((room) => askNames(room, framed, namesRoom));
+      const given = this.#call((room) => askNames(room, call, framed, namesRoom));
       if (!given) return { status: noMemory("rp").status, names: [] };
       if (given.names) {
         const names = texts.decode(given.names).split("\0").slice(0, -1);

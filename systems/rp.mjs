@@ -1,9 +1,12 @@
 #!/usr/bin/env node
 // The command `rp` for Node on any system: the words, files, streams and statuses of the program, over rp.wasm. By the
-// name rp-wide.mjs this file is the command `rp-wide`.
+// name rp-wide.mjs this file is the command `rp-wide`, and by rp-panel.mjs it is `rp-panel`.
 import { closeSync, openSync, readFileSync, readSync, writeSync } from "node:fs";
 
 const [REFUSED, WRITE_FAULT, NO_MEMORY, NO_TEXT] = [4, 5, 6, 7];
+const isNamed = (name) => import.meta.url.endsWith(`/${name}.mjs`);
+/** The command's name in its own lines. */
+const NAME = isNamed("rp-panel") ? "rp-panel" : "rp";
 /** No answer: a file beside this one is missing or damaged, or the module stopped. The program has no such end. */
 const NO_MODULE = 70;
 
@@ -44,12 +47,19 @@ function writes(stream, bytes) {
   return true;
 }
 
-/** The library's answers, by the edition that this file is named for. */
-function named(library) {
-  const isWide = import.meta.url.endsWith("/rp-wide.mjs");
+/** The command that this file is named for: how the library answers it, and how much of a file it reads at most. */
+function named(library, { MOST_LONG, MOST_READ }) {
+  if (isNamed("rp-panel")) {
+    return {
+      most: MOST_LONG,
+      files: (words) => library.panelFiles(words),
+      answer: (words, files) => library.panel(words, files),
+    };
+  }
   return {
+    most: MOST_READ,
     files: (words) => library.files(words),
-    answer: (words, files) => library.answer(words, files, isWide),
+    answer: (words, files) => library.answer(words, files, isNamed("rp-wide")),
   };
 }
 
@@ -61,46 +71,45 @@ const isAlike = (one, other) =>
  * earlier one may have to be refused all the same: that is so where the answer is the same whatever stands in the files
  * from there on. Each kind of file is refused for one reason where it is empty, and for another where it is `{}`.
  */
-function answerUnread(library, words, files, names) {
+function answerUnread(command, words, files, names) {
   const filled = (text) =>
-    library.answer(words, [...files, ...names.map((name) => ({ name, bytes: Buffer.from(text) }))]);
+    command.answer(words, [...files, ...names.map((name) => ({ name, bytes: Buffer.from(text) }))]);
   const refused = filled("");
-  return isAlike(refused, filled("{}")) ? refused : library.answer(words, files);
+  return isAlike(refused, filled("{}")) ? refused : command.answer(words, files);
 }
 
 /** Reads the files that the words name, in their order, and answers. Of words that are no line there are none. */
-function answer(library, words, most) {
-  const wanted = library.files(words);
+function answer(command, words) {
+  const wanted = command.files(words);
   if (wanted.status === NO_MEMORY) throw new RangeError("memory is short");
   const names = [...new Set(wanted.names)];
   const files = [];
   for (const [at, name] of names.entries()) {
-    const bytes = bytesOf(name, most);
-    if (!bytes) return answerUnread(library, words, files, names.slice(at));
+    const bytes = bytesOf(name, command.most);
+    if (!bytes) return answerUnread(command, words, files, names.slice(at));
     files.push({ name, bytes });
   }
-  return library.answer(words, files);
+  return command.answer(words, files);
 }
 
 /** Writes a line of the command's own on standard error, and gives the status that it stands with. */
 function ends(line, status) {
-  writes(2, Buffer.from(`rp: ${line}\n`));
+  writes(2, Buffer.from(`${NAME}: ${line}\n`));
   return status;
 }
 
 async function main() {
-  const { MOST_READ, NoText, load } = await import("./rp.js");
-  const library = await load(readFileSync(new URL("rp.wasm", import.meta.url)));
+  const shared = await import("./rp.js");
+  const library = await shared.load(readFileSync(new URL("rp.wasm", import.meta.url)));
   let given;
   try {
-    given = answer(named(library), process.argv.slice(2), MOST_READ);
+    given = answer(named(library, shared), process.argv.slice(2));
   } catch (error) {
-    if (error instanceof NoText) return NO_TEXT;
+    if (error instanceof shared.NoText) return NO_TEXT;
     throw error;
   }
-  if (!writes(1, given.output)) return ends("write failed", WRITE_FAULT);
   writes(2, given.told);
-  return given.status;
+  return writes(1, given.output) ? given.status : ends("write failed", WRITE_FAULT);
 }
 
 /** The end without an answer: memory is short, or rp.js or rp.wasm is missing or damaged, or the module stopped. */

@@ -24,5 +24,7 @@ void write_told(const uint8_t *text, size_t length);
 
 /* The status of the command, for its words in UTF-8. The first, where there is one, is the program's name. */
 int program(int count, char **words);
+/* Tells that memory ran out, as the command does by which this program's name is, and returns the status for that. */
+int without_memory(const char *name);
 
 #endif

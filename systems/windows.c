@@ -108,24 +108,16 @@ static int narrow(const wchar_t *word, char **set) {
     return 0;
 }
 
-/* An end before anything is asked. */
-static int ended(int status) {
-    static const char line[] = "rp: out of memory\n";
-    if (status == NO_MEMORY)
-        write_told((const uint8_t *)line, sizeof line - 1);
-    return status;
-}
-
 int main(void) {
     int count = 0;
     wchar_t **wide_words = CommandLineToArgvW(GetCommandLineW(), &count);
     char **words = calloc((size_t)count + 1, sizeof *words);
     if (!wide_words || !words)
-        return ended(NO_MEMORY);
+        return without_memory("");
     for (int at = 0; at < count; at++) {
         int status = narrow(wide_words[at], &words[at]);
         if (status)
-            return ended(status);
+            return status == NO_MEMORY ? without_memory(at ? words[0] : "") : status;
     }
     return program(count, words);
 }

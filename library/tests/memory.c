@@ -76,15 +76,17 @@ static int32_t call(const Kind *kind, uint8_t *output, size_t room, uint64_t *le
         (const uint8_t *)bytes, strlen(bytes), output, room, told, 64, length, told_length);
 }
 
-/* The same of the call that names files; how often it was refused, or -1. */
-static long name_refused(void) {
+typedef int32_t Naming(const uint8_t *, size_t, uint8_t *, size_t, uint64_t *);
+
+/* The same of a call that names files, by words that name that one; how often it was refused, or -1. */
+static long name_refused(Naming *naming, const char *of, size_t count) {
     long refused = 0;
     for (for_good = 0; for_good < 2; for_good++) {
         for (long place = 0;; place++) {
             uint8_t named[16];
             uint64_t length = 99;
             before = place;
-            int32_t status = rp_files((const uint8_t *)words, sizeof words, named, sizeof named, &length);
+            int32_t status = naming((const uint8_t *)of, count, named, sizeof named, &length);
             int was_reached = before < 0 || (for_good && before == 0);
             before = -1;
             int is_answered = status == RP_DONE && length == sizeof names && memcmp(named, names, sizeof names) == 0;
@@ -124,7 +126,8 @@ static int is_wrong(const Kind *kind) {
 int main(void) {
     int wrong = 0;
     for (size_t it = 0; it < sizeof kinds / sizeof *kinds; it++) wrong |= is_wrong(&kinds[it]);
-    long unnamed = name_refused();
-    printf("of the call that names files refused %ld times\n", unnamed);
-    return wrong || unnamed <= 0;
+    long unnamed = name_refused(rp_files, words, sizeof words);
+    long long_unnamed = name_refused(rp_panel_files, panel_words, sizeof panel_words);
+    printf("of the calls that name files refused %ld and %ld times\n", unnamed, long_unnamed);
+    return wrong || unnamed <= 0 || long_unnamed <= 0;
 }

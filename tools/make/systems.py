@@ -49,6 +49,8 @@ STATIC = ["-static-pie", "-s", "-Wl,--gc-sections,-z,relro,-z,now,-z,noexecstack
 ARM_PARTS = ["link/program.o", "link/posix.o", "link/heap.o", "link/librp_c.a"]
 ARM_LINK = ["aarch64-linux-gnu-gcc", *STATIC, "-o", "rp", *ARM_PARTS]
 FOR_WINDOWS = f"{CALL}; their LLVM module compiled for x86_64-pc-windows-gnu by the kit's clang; linked with systems/program.c and windows.c by mingw-w64's gcc; {TRIED} under Wine"
+# The names beside rp by which its file is another command.
+OTHER_NAMES = ("rp-wide", "rp-panel")
 # What stands behind each file, for PROVED: what was proved, and by what it was compiled, linked and run.
 ORIGINS = {
     "arm": {
@@ -57,7 +59,7 @@ ORIGINS = {
     },
     "windows": {
         "rp.exe": FOR_WINDOWS,
-        "rp-wide.exe": f"the same file as rp.exe, which answers as rp-wide under this name: {FOR_WINDOWS}",
+        **{f"{it}.exe": f"the same file as rp.exe, which answers as {it} under this name: {FOR_WINDOWS}" for it in OTHER_NAMES},
         "rp.dll": f"{CALL}; their LLVM module compiled as for rp.exe; linked as a library by mingw-w64's gcc; {TRIED} under Wine",
         "librp.dll.a": "what a program is linked with that takes rp.dll",
         "rp.h": "the call in C",
@@ -67,8 +69,8 @@ ORIGINS = {
         "rp.js": "JavaScript around the module, for a page and for Node; no proof covers it; run by tools/check/systems",
         "rp.mjs": "the command for Node over rp.js; no proof covers it; run by tools/check/systems",
         "rp": "a script of the shell that starts rp.mjs by Node",
-        "rp-wide.mjs": "the same file as rp.mjs, which answers as rp-wide under this name",
-        "rp-wide": "the same file as rp, which starts rp-wide.mjs",
+        **{f"{it}.mjs": f"the same file as rp.mjs, which answers as {it} under this name" for it in OTHER_NAMES},
+        **{it: f"the same file as rp, which starts {it}.mjs" for it in OTHER_NAMES},
     },
     "c": {
         "rp.c": f"{CALL}, in the module rp.wasm of the release for the web; translated to C by wasm2c of WABT, which no proof covers, as none covers the C around the calls, your compiler and its link; run by tools/check/one-file",
@@ -216,8 +218,9 @@ def linked_wasm(objects, exports, made, room):
 def web(room):
     """Returns the files of WebAssembly: the module, the JavaScript that a page and Node share, and the command for Node."""
     objects = compiled("wasm", ["heap.ll", "wasm_heap.c", "wasm_guard.c"], room)
-    module = linked_wasm(objects, ("rp_answer", "rp_answer_wide", "rp_files", "rp_panel", "malloc", "free"), f"{room}/rp.wasm", room)
-    commands = {it: source for name in ("rp", "rp-wide") for it, source in ((name, f"{SOURCES}/rp.sh"), (f"{name}.mjs", f"{SOURCES}/rp.mjs"))}
+    seen = ("rp_answer", "rp_answer_wide", "rp_files", "rp_panel", "rp_panel_files", "malloc", "free")
+    module = linked_wasm(objects, seen, f"{room}/rp.wasm", room)
+    commands = {it: source for name in ("rp", *OTHER_NAMES) for it, source in ((name, f"{SOURCES}/rp.sh"), (f"{name}.mjs", f"{SOURCES}/rp.mjs"))}
     return {"rp.wasm": module, "rp.js": f"{SOURCES}/rp.js", **commands}
 
 
@@ -257,12 +260,14 @@ def windows(room):
     sources = [f"{SOURCES}/{it}" for it in ("program.c", "windows.c")]
     told = told_of("rp.exe", "revealed preference with proved verdicts", 1, room)
     ran([*gcc, *sources, *objects, told, "-lshell32", "-o", f"{room}/rp.exe"], room)
-    shutil.copy(f"{room}/rp.exe", f"{room}/rp-wide.exe")
+    others = [f"{it}.exe" for it in OTHER_NAMES]
+    for it in others:
+        shutil.copy(f"{room}/rp.exe", f"{room}/{it}")
     exported = [f"{SOURCES}/rp.def", f"-Wl,--out-implib,{room}/librp.dll.a"]
     told = told_of("rp.dll", "the library of rp, revealed preference with proved verdicts", 2, room)
     # Else its base is drawn from the name of its file, with the folder.
     ran([*gcc, "-shared", "-Wl,--disable-auto-image-base", *objects, told, *exported, "-o", f"{room}/rp.dll"], room)
-    return {it: f"{room}/{it}" for it in ("rp.exe", "rp-wide.exe", "rp.dll", "librp.dll.a")} | {"rp.h": f"{TOP}/library/rp.h"}
+    return {it: f"{room}/{it}" for it in ("rp.exe", *others, "rp.dll", "librp.dll.a")} | {"rp.h": f"{TOP}/library/rp.h"}
 
 
 def arm_library(room):

@@ -1,6 +1,6 @@
-//! The suite as a library that programs in C call: one function over files in memory for each edition of the program, one
-//! for panels, and one that tells which files the words name. They hand their arguments to the library crates of the same
-//! calls, and state those contracts again.
+//! The suite as a library that programs in C call: one function over files in memory for each edition of the program and
+//! one for panels, and two that tell which files the words name. They hand their arguments to the library crates of the
+//! same calls, and state those contracts again.
 #![tactic(auto)]
 
 ghost use Rattle.std.specs.Prelude.{◌≡◌, pos};
@@ -8,12 +8,13 @@ ghost use Rattle.rp_frame.specs.Frames.{frame_of};
 ghost use Rattle.rp_call.specs.CallEndings.{EndsSo, EndsSoBy, IsDecided, ending_number};
 ghost use Rattle.rp_call.specs.NamedFiles.{NamesSo};
 ghost use Rattle.rp_call.specs.declared.ending.Ending.{Ending};
+ghost use Rattle.rp_panel_call.specs.NamedFiles as PanelNames;
 ghost use Rattle.rp_panel_call.specs.PanelEndings as Panels;
 ghost use Rattle.rp_panel_call.specs.declared.ending.Ending as PanelCall;
 ghost use Rattle.rp_run_wide.specs.Filling.{as_filled};
 
 use rp_call::{answer, answer_edition, name_files};
-use rp_panel_call::answer_panel;
+use rp_panel_call::{answer_panel, name_panel_files};
 use rp_run_wide::Filled;
 use std::alloc::Global;
 
@@ -125,4 +126,18 @@ pub extern "C" fn rp_files(
         × NamesSo words.now ending names.old names.new names_length.new }
 {
     name_files(alloc, words, names, names_length).number()
+}
+
+/// The names of the files that the words of `rp-panel` name, as `rp.h` tells; the status is the result.
+#[unsafe(no_mangle)]
+pub extern "C" fn rp_panel_files(
+    alloc: Global,
+    words: &[u8],
+    names: &mut [u8],
+    names_length: &mut u64,
+) -> i32
+    ensures { (ending : PanelCall.Ending) × (result ≡ pos (Panels.ending_number ending))
+        × PanelNames.NamesSo words.now ending names.old names.new names_length.new }
+{
+    name_panel_files(alloc, words, names, names_length).number()
 }

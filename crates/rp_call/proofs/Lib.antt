@@ -1,4 +1,3 @@
 mod DecidedFacts
 mod GivenFacts
-mod NamingFacts
 mod RunFacts

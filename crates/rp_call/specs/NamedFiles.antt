@@ -1,6 +1,7 @@
 -- What a call tells of the files that words name, with its cause (this program's own form).
-use Rattle.std.specs.Prelude.{◌≡◌, ◌++◌, ℕ, List, [], ◌∷◌, Option, Some, None, length}
-use Rattle.rp_frame.specs.Frames.{Frame, Request, frame_of, request_in}
+use Rattle.std.specs.Prelude.{◌≡◌, ℕ, List, [], Option, Some, None, length}
+use Rattle.rp_frame.specs.Frames.{Request, request_in}
+use Rattle.rp_frame.specs.Names.{ended_names, words_alone}
 use Rattle.rp_frame.specs.Rooms.{filled}
 use Rattle.rp_command_line.specs.CommandLine.{Line, files_of}
 use Rattle.rp_answers.specs.declared.status.Status.TheVariants.{Done, Rejected, Usage, ReadFault, Refused, WriteFault}
@@ -8,15 +9,6 @@ use Rattle.rp_answers.specs.declared.status.Status.TheVariants.{NoMemory}
 use Rattle.rp_call.specs.CallEndings.{HasNoText, Requests, asked_of}
 use Rattle.rp_call.specs.declared.ending.Ending.{Ending}
 use Rattle.rp_call.specs.declared.ending.Ending.TheVariants.{Ran, NoText, Malformed}
-
--- names one after the other, each ended by a zero byte
-unfoldable pub ended_names : List (List ℕ) → List ℕ
-ended_names [] = []
-ended_names (name ∷ names) = name ++ 0 ∷ ended_names names
-
--- the frame of words without files
-abbrev pub words_alone : List ℕ → Frame
-words_alone words = frame_of words [] [] []
 
 -- the words are a line, and the text is the names of its files in their order
 pub record NamesFiles (words text : List ℕ) : Type 0 where

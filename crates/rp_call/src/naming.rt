@@ -1,11 +1,11 @@
 //! Which files the words of a command line name.
-ghost use Rattle.std.specs.Prelude.{◌≡◌, [], IfOk, map, string_bytes};
+ghost use Rattle.std.specs.Prelude.{◌≡◌, [], IfOk};
 ghost use Rattle.rp_command_line.specs.Words.{line_in};
-ghost use Rattle.rp_call.specs.NamedFiles.{IsNamingOf, NamesOfLine, NamesSo, ended_names};
+ghost use Rattle.rp_call.specs.NamedFiles.{IsNamingOf, NamesOfLine, NamesSo};
 
 use crate::ending::Ending;
 use rp_command_line::read_line;
-use rp_frame::{FrameFault, fill, read_frame};
+use rp_frame::{FrameFault, end_names, fill, read_frame};
 use rp_num::NoMemory;
 use rp_run::Status;
 use std::alloc::Global;
@@ -66,7 +66,7 @@ fn names_of_line(alloc: Global, words: &[String]) -> Result<Named, NoMemory>
 {
     match read_line(alloc, words)? {
         Some(line) => {
-            let text = ended(alloc, line.arguments.files.as_slice())?;
+            let text = end_names(alloc, line.arguments.files.as_slice())?;
             Ok(Named {
                 ending: Ending::Ran(Status::Done),
                 text,
@@ -74,16 +74,4 @@ fn names_of_line(alloc: Global, words: &[String]) -> Result<Named, NoMemory>
         }
         None => Ok(no_names(alloc, Ending::Ran(Status::Usage))),
     }
-}
-
-/// Names one after the other, each ended by a zero byte.
-fn ended(alloc: Global, names: &[&str]) -> Result<Vec<u8>, NoMemory>
-    ensures { IfOk result (λ text. text.items ≡ ended_names (map (λ name. name.now) names.now)) }
-{
-    let mut text = Vec::new(alloc);
-    for name in names {
-        text.extend_from_slice(name.as_bytes())?;
-        text.push(0)?;
-    }
-    Ok(text)
 }

@@ -4,6 +4,7 @@
 
 mod files;
 mod handed;
+mod names;
 mod parts;
 mod pieces;
 mod rooms;
@@ -12,5 +13,6 @@ mod texts;
 
 pub use files::first_missing;
 pub use handed::{FrameFault, Handed, read_frame};
+pub use names::end_names;
 pub use rooms::fill;
 pub use text_sink::TextSink;

@@ -44,7 +44,7 @@ module _ (groups counts : List ℕ) (are : AreGrouped groups counts) where
 module _ (list : MenuList) (is : IsMenuList list) where
   -- there are no more menus than cells
   pub few_menus : length list.menus ≤ 64
-  few_menus = omega (arith, few_groups list.groups list.counts is.grouped, is.on_every, is.grouped.few)
+  few_menus = omega (arith, few_groups list.groups list.counts is.grouped, is.on_every, is.few_cells)
 
   -- the letter of a cell is one of those that there are
   pub letter_below : (k : ℕ) → k < length list.groups → slice_index list.chosen k < list.letters

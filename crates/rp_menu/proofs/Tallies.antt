@@ -140,6 +140,7 @@ module _ (n : ℕ) (menus : List ℕ) (cells : List Cell) (records : ℕ) (is : 
         some_in_each = λ i inside. (is.are_menus i inside).0;
         within_letters = λ i inside. (is.are_menus i inside).1;
         apart = is.apart;
+        few_cells = omega (arith, most, all_groups cells);
         grouped = are_grouped cells (length menus) is.in_order group_below is.some_on some most (λ j inside. omega (arith, is.few_on j, few));
         on_every = all;
         all_chosen = all_letters cells ∙ sym (all_groups cells);

@@ -4,7 +4,7 @@ use Rattle.std.specs.Prelude.{◌≡◌, ◌≢◌, ℕ, ◌<◌, ◌≤◌, ◌
 use Rattle.std.specs.Prelude.{List, length, slice_index}
 use Rattle.std.specs.Int.{bit_at}
 use Rattle.rp_patch.specs.Apportionment.{AreGrouped, groups_in}
-use Rattle.rp_limits.specs.declared.menu.TheConstants.{LETTERS}
+use Rattle.rp_limits.specs.declared.menu.TheConstants.{CELLS, LETTERS}
 
 -- whether the menu with that number has letter x, from 0: numbers are sums of 1, 2, 4 and so on, for a, b, c and so on
 abbrev pub has_letter : ℕ → ℕ → Bool
@@ -19,8 +19,8 @@ pub record MenuList : Type 0 where
   pub chosen : List ℕ
   pub counts : List ℕ
 
--- Menus within the limits: each has one letter or more of those that there are, and no two are the same; the cells
--- stand by menu, with a cell on every menu; each has a letter of its menu and was chosen, and no two cells of a menu
+-- Menus within the limits: each has one letter or more of those that there are, and no two are the same; the cells are
+-- few and stand by menu, with a cell on every menu; each has a letter of its menu and was chosen, and no two cells of a menu
 -- have the same letter; what was chosen from a menu can be shared out in units.
 pub record IsMenuList (list : MenuList) : Type 0 where
   pub some_letters : 1 ≤ list.letters
@@ -28,6 +28,7 @@ pub record IsMenuList (list : MenuList) : Type 0 where
   pub some_in_each : (i : ℕ) → i < length list.menus → 1 ≤ slice_index list.menus i
   pub within_letters : (i : ℕ) → i < length list.menus → slice_index list.menus i < 2 ^ list.letters
   pub apart : (h i : ℕ) → h < i → i < length list.menus → slice_index list.menus h ≢ slice_index list.menus i
+  pub few_cells : length list.groups ≤ CELLS
   pub grouped : AreGrouped list.groups list.counts
   pub on_every : groups_in list.groups ≡ length list.menus
   pub all_chosen : length list.chosen ≡ length list.groups

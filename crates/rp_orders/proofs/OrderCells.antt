@@ -158,7 +158,7 @@ module _ (list : MenuList) (is : IsMenuList list) where
       -- the program of any of these orders is within the limits
       pub within_limits : (orders : List (List ℕ)) → length orders ≤ most_columns → IsWithinLimits (mixture_program (orders_over list units) orders)
       within_limits orders few = record {
-        rows_at_most = omega (arith, is.grouped.few);
+        rows_at_most = omega (arith, is.few_cells);
         cols_at_most = omega (arith, few);
         a_bounded = λ i j i_in j_in. one_or_none (uses (cells_picked list (slice_index_or orders j [])) i);
         b_bounded = λ i i_in. let u = few_units i i_in in omega (arith, ints, u);

@@ -1,2 +1,3 @@
 pub mod PanelEndings
 pub mod InnerEndings
+pub mod NamedFiles

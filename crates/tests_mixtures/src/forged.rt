@@ -1,7 +1,8 @@
 //! Evidence on random choices, of whatever origin, as lines of numbers, and what the checker answers on it.
-ghost use Rattle.std.specs.Prelude.{◌≡◌, ◌≤◌, [], All, IfOk, IfSome};
+ghost use Rattle.std.specs.Prelude.{◌≡◌, ◌≤◌, [], All, IfOk, IfSome, length};
 ghost use Rattle.rp_evidence.specs.Kinds.{IsOfKind};
 ghost use Rattle.rp_evidence.specs.declared.certificate.Kind.TheVariants.{Random as RandomKind};
+ghost use Rattle.rp_limits.specs.declared.patch.TheConstants.{PATCHES};
 
 use rp_check::{Verdict, check_random};
 use rp_evidence::{Certificate, Item, Kind, RandomPart, Share};
@@ -22,6 +23,7 @@ pub(crate) fn patches_of(
     unit: Option<u32>,
 ) -> Result<Patches, Fail>
     requires { IfSome unit (λ n. (1 ≤ n) × (n ≤ UNITS)) }
+    ensures { IfOk result (λ p. length p.patches ≤ PATCHES) }
 {
     let budgets = read_budgets(alloc, budgets.as_bytes())?;
     let choices = read_choices(alloc, choices.as_bytes(), &budgets)?;

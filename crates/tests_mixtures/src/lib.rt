@@ -12,7 +12,11 @@ mod forged;
 #[cfg(test)]
 mod forgeries;
 #[cfg(test)]
+mod generated;
+#[cfg(test)]
 mod limits;
+#[cfg(test)]
+mod many;
 #[cfg(test)]
 mod mixtures;
 #[cfg(test)]

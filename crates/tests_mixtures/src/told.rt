@@ -1,7 +1,9 @@
 //! What budgets and choices in files come to, in a line.
-ghost use Rattle.std.specs.Prelude.{◌≤◌, IfSome};
+ghost use Rattle.std.specs.Prelude.{◌≤◌, IfSome, length};
+ghost use Rattle.rp_limits.specs.declared.patch.TheConstants.{PATCHES};
 
 use rp_evidence::{RandomPart, Share};
+use rp_generated::generated;
 use rp_limits::patch::UNITS;
 use rp_patch::of_choices::patches;
 use rp_patch::{PatchFault, Patches};
@@ -25,6 +27,10 @@ pub(crate) enum Ask {
     Counts,
     /// The evidence on random choices, its patches from 1.
     Evidence,
+    /// The same by generated types.
+    Generated,
+    /// How much of the total these have, where they make no mixture.
+    GeneratedShare,
 }
 
 /// The sign of a number.
@@ -114,6 +120,27 @@ fn evidence_text(alloc: Global, part: &RandomPart) -> Result<String, AllocError>
     Ok(text)
 }
 
+/// How much of the total the parts have, whole and what is left.
+pub(crate) fn share_text(
+    alloc: Global,
+    part: &RandomPart,
+    total: u64,
+) -> Result<String, AllocError> {
+    match part {
+        RandomPart::Violated { den, parts, .. } if *den > 0 => {
+            let mut weight: u128 = 0;
+            for part in parts.as_slice() {
+                weight = weight.wrapping_add(u128::from(part.weight));
+            }
+            let whole = u64::try_from(weight / u128::from(*den)).unwrap_or(u64::MAX);
+            let rest = u64::try_from(weight % u128::from(*den)).unwrap_or(u64::MAX);
+            format!(in alloc; "violated, {whole} and {rest} left of {total}")
+        }
+        RandomPart::Mixture { .. } => format!(in alloc; "mixture of {total}"),
+        _ => format!(in alloc; "withheld"),
+    }
+}
+
 /// The rational types or the counts, or why there is no list of types.
 fn told_types(alloc: Global, ask: Ask, made: &Patches) -> Result<String, AllocError> {
     let types = match rational_types(alloc, made) {
@@ -127,14 +154,18 @@ fn told_types(alloc: Global, ask: Ask, made: &Patches) -> Result<String, AllocEr
     format!(in alloc; "{patches} patches, {types} types")
 }
 
-fn told_evidence(alloc: Global, made: &Patches) -> Result<String, Fail> {
+fn told_evidence(alloc: Global, made: &Patches) -> Result<String, Fail>
+    requires { length made.now.patches ≤ PATCHES }
+{
     let types = rational_types(alloc, made)?;
     let part = random(alloc, made, &types)?;
     Ok(evidence_text(alloc, &part)?)
 }
 
 /// What these patches come to.
-fn told_of(alloc: Global, ask: Ask, made: &Patches) -> Result<String, Fail> {
+fn told_of(alloc: Global, ask: Ask, made: &Patches) -> Result<String, Fail>
+    requires { length made.now.patches ≤ PATCHES }
+{
     match ask {
         Ask::Patches => Ok(patches_text(alloc, made)?),
         Ask::PatchCount => {
@@ -143,11 +174,13 @@ fn told_of(alloc: Global, ask: Ask, made: &Patches) -> Result<String, Fail> {
         }
         Ask::Types | Ask::Counts => Ok(told_types(alloc, ask, made)?),
         Ask::Evidence => told_evidence(alloc, made),
+        Ask::Generated => Ok(evidence_text(alloc, &generated(alloc, made)?)?),
+        Ask::GeneratedShare => Ok(share_text(alloc, &generated(alloc, made)?, made.total())?),
     }
 }
 
 /// The fault, with its budget from 1.
-fn told_fault(alloc: Global, fault: PatchFault) -> Result<String, AllocError> {
+pub(crate) fn told_fault(alloc: Global, fault: PatchFault) -> Result<String, AllocError> {
     match fault {
         PatchFault::TooManyPatches { budget } | PatchFault::NeedUnit { budget } => {
             let budget = u64::from(budget) + 1;

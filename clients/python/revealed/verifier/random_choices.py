@@ -70,14 +70,24 @@ def is_rational(patches, chosen):
     return not walks.has_violation(weak, strict)
 
 
-def rational_types(patches, begun=()):
-    """Yields each rational type; a beginning that has a violation has it in all that follows."""
-    if len(begun) == len(patches.budgets):
-        yield begun
-        return
-    for number in patches.on(len(begun)):
-        if is_rational(patches, (*begun, number)):
-            yield from rational_types(patches, (*begun, number))
+def is_one_lighter(patches, weights, den):
+    """Whether some rational type weighs less than this. A beginning is left where it has a violation, which all that follows has
+    too, and where it weighs as much with the lightest patch of each budget that is to come."""
+    on = [patches.on(budget) for budget in patches.budgets]
+    to_come = [0]
+    for numbers in reversed(on):
+        to_come.insert(0, to_come[0] + min((weights[number] for number in numbers), default=0))
+
+    def follows(begun, weight):
+        if len(begun) == len(on):
+            return True
+        for number in on[len(begun)]:
+            longer, heavier = (*begun, number), weight + weights[number]
+            if heavier + to_come[len(longer)] < den and is_rational(patches, longer) and follows(longer, heavier):
+                return True
+        return False
+
+    return follows((), 0)
 
 
 def look(patches, item):
@@ -119,7 +129,7 @@ def no_greatest_share(patches, item, used):
     for number, units in enumerate(patches.units):
         if used[number] > den * units:
             return f"patch {number + 1} gets more than its units"
-    if any(sum(weights[number] for number in chosen) < den for chosen in rational_types(patches)):
+    if is_one_lighter(patches, weights, den):
         return "a rational type weighs less than the denominator"
     share = sum(weight for _, weight in item["parts"])
     if share != sum(weight * units for weight, units in zip(weights, patches.units)):

@@ -1,7 +1,7 @@
 use Rattle.std.proofs.Common.{◌≡◌, ◌++◌, ℕ, List, drop, map}
 use Rattle.std.specs.Borrow.{Bor}
-use Rattle.rp_call.specs.NamedFiles.{ended_names}
-use Rattle.rp_call.proofs.naming.ended.Given as goal
+use Rattle.rp_frame.specs.Names.{ended_names}
+use Rattle.rp_frame.proofs.names.end_names.Given as goal
 
 abbrev pub invariant-loop-name : goal.invariant-loop-name
 invariant-loop-name l = record {

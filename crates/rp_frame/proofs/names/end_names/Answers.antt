@@ -1,5 +1,5 @@
-use Rattle.rp_call.proofs.NamingFacts.{ended_all, ended_more}
-use Rattle.rp_call.proofs.naming.ended.Goals as goal
+use Rattle.rp_frame.proofs.NameLemmas.{ended_all, ended_more}
+use Rattle.rp_frame.proofs.names.end_names.Goals as goal
 
 pub loop-name-preserved : goal.loop-name-preserved
 loop-name-preserved c = record {

@@ -3,7 +3,7 @@ use Rattle.std.proofs.Common.{◌≡◌, ◌∙◌, ◌++◌, ◌+◌, ◌<◌, 
 use Rattle.std.proofs.Math.ListN.{drop_of_length-le}
 use Rattle.std.proofs.lemmas.List.{append-nil, at_drop_more}
 use Rattle.std.specs.Borrow.{Bor}
-use Rattle.rp_call.specs.NamedFiles.{ended_names}
+use Rattle.rp_frame.specs.Names.{ended_names}
 
 abbrev pub texts : List (Bor (List ℕ)) → List (List ℕ)
 texts names = map (λ (name : Bor (List ℕ)). name.now) names

@@ -1,0 +1,9 @@
+use Rattle.std.proofs.Common.{◌∙◌}
+use Rattle.std.proofs.lemmas.Int.{to_z-of_z}
+use mir.Syntax.{w32}
+use Rattle.rp_c.proofs.rp_panel_files.Goals as goal
+
+pub returns : goal.returns
+returns c =
+    let read = to_z-of_z w32 c.number.result (record { sfits = c.number.type_inv }) in
+    (c.name_panel_files.result, read ∙ c.number.ensures, c.name_panel_files.ensures)
