@@ -1,5 +1,6 @@
 pub mod AskedLemmas
 pub mod ChosenInFiles
+pub mod DenotedAlike
 pub mod FileLemmas
 pub mod GainsLemmas
 pub mod LineLemmas
@@ -14,3 +15,4 @@ pub mod RunLemmas
 pub mod SomeAnswer
 pub mod SomeCertificate
 pub mod TurnLemmas
+pub mod TypedLemmas
