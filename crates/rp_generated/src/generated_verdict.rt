@@ -1,0 +1,70 @@
+//! The verdict on random choices by generated types.
+ghost use Rattle.std.specs.Prelude.{◌≡◌, ◌≤◌, true, IfOk, IfSome, Ok};
+ghost use Rattle.rp_check_mixture.specs.RandomWithin.{RandomFailsWithin};
+ghost use Rattle.rp_generated.specs.Steps.{WithheldAt};
+ghost use Rattle.rp_patch.specs.RandomEvidence.{ProvesRandom, ShowsShare};
+ghost use Rattle.rp_persons.specs.SaysRandom.{SaysOfChoices};
+
+use crate::rounds::rounds;
+use rp_check_mixture::check_choices_within;
+use rp_evidence::{Failure, RandomPart};
+use rp_limits::generated::STEPS;
+use rp_num::NoMemory;
+use rp_patch::Patches;
+use std::alloc::Global;
+
+/// Whether nothing was found wrong.
+fn is_nothing(found: Result<(), Failure>) -> bool
+    ensures { result ≡ true → found ≡ Ok tt }
+{
+    match found {
+        Ok(()) => true,
+        Err(_) => false,
+    }
+}
+
+/// Whether evidence has a verdict.
+fn has_verdict(part: &RandomPart) -> bool
+    ensures { result ≡ true → WithheldAt part.now (λ step. step ≤ STEPS) }
+{
+    match part {
+        RandomPart::Wide { .. } => false,
+        _ => true,
+    }
+}
+
+/// Whether the checker finds nothing wrong with evidence.
+fn is_taken(patches: &Patches, part: &RandomPart) -> bool
+    ensures { result ≡ true
+        → RandomFailsWithin patches.now patches.now.total part.now STEPS (Ok tt) }
+{
+    is_nothing(check_choices_within(patches, patches.total(), part, STEPS))
+}
+
+/// The evidence where the checker takes it, and else that the verdict is withheld after so many steps.
+fn if_taken(patches: &Patches, found: Option<RandomPart>, steps: u64) -> RandomPart
+    requires { steps ≤ STEPS }
+    ensures accepted { RandomFailsWithin patches.now patches.now.total result STEPS (Ok tt) }
+    ensures steps { WithheldAt result (λ step. step ≤ STEPS) }
+{
+    match found {
+        Some(part) if has_verdict(&part) && is_taken(patches, &part) => part,
+        _ => RandomPart::Wide { step: steps },
+    }
+}
+
+/// Whether some mixture of rational types makes the choices, by types that are generated: a mixture; a partial one of
+/// the greatest share with weights of the patches; or, where neither is found, how many steps the search made. All
+/// rational types are meant, however many there are, and what is given says of persons what it does where all are listed.
+pub fn generated(alloc: Global, patches: &Patches) -> Result<RandomPart, NoMemory>
+    ensures proves { IfOk result (ProvesRandom patches.now patches.now.total) }
+    ensures share { IfOk result (ShowsShare patches.now) }
+    ensures says { IfOk result (SaysOfChoices patches.now) }
+    ensures accepted { IfOk result (λ part.
+        RandomFailsWithin patches.now patches.now.total part STEPS (Ok tt)) }
+    ensures steps { IfOk result (λ part. WithheldAt part (λ step. step ≤ STEPS)) }
+{
+    prove!(patches.budgets() >= 1);
+    let found = rounds(alloc, patches)?;
+    Ok(if_taken(patches, found.part, found.steps))
+}

@@ -1,0 +1,12 @@
+//! Random utility by generated types: types that are too light by the prices so far are added to a program, until there
+//! is none, so all rational types need never be listed (Smeulders, Cherchye and De Rock 2021). What is found is given
+//! only where the checker takes it.
+#![tactic(auto)]
+
+mod generated_verdict;
+mod lightest;
+mod parts;
+mod prices;
+mod rounds;
+
+pub use generated_verdict::generated;

@@ -1,0 +1,101 @@
+//! Rounds of the search: the program over the types so far is solved, and types that are light by its prices are added,
+//! until there is none, or a mixture of these types has the whole total.
+ghost use Rattle.std.specs.Prelude.{◌≤◌};
+ghost use Rattle.rp_limits.specs.declared.generated.TheConstants.{STEPS};
+
+use crate::lightest::{Lightest, light_types};
+use crate::parts::{mixture, violation};
+use crate::prices::Prices;
+use rp_evidence::RandomPart;
+use rp_num::NoMemory;
+use rp_patch::Patches;
+use rp_whole_tableau::Grown;
+use std::alloc::Global;
+
+/// The most rounds of a run.
+const MOST_ROUNDS: u32 = 65_536;
+
+/// What the rounds end with: evidence, where some was found, and how many steps the searches made.
+#[derive(Drop)]
+pub(crate) struct Found {
+    pub(crate) part: Option<RandomPart>,
+    pub(crate) steps: u64,
+    ghost few: { steps ≤ STEPS },
+}
+
+/// The program of a row for each patch with its units, and no types yet.
+fn first_program(alloc: Global, patches: &Patches) -> Result<Grown, NoMemory> {
+    let mut units = Vec::new(alloc);
+    for i in 0..patches.count() {
+        units.push(patches.units(i))?;
+    }
+    Grown::of_sides(alloc, units.as_slice())
+}
+
+/// The prices of the patches; none where one is negative or passes a word.
+fn prices_of(
+    alloc: Global,
+    patches: &Patches,
+    program: &Grown,
+) -> Result<Option<Prices>, NoMemory> {
+    let mut prices = Vec::new(alloc);
+    for i in 0..patches.count() {
+        match u64::try_from(program.price(i as usize)) {
+            Ok(price) => prices.push(price)?,
+            Err(_) => return Ok(None),
+        }
+    }
+    Ok(Some(Prices::make(alloc, patches, prices)?))
+}
+
+/// Adds types to the program.
+fn add_all(alloc: Global, program: &mut Grown, types: &[Vec<u32>]) -> Result<(), NoMemory> {
+    for numbers in types {
+        program.add(alloc, numbers.as_slice())?;
+    }
+    Ok(())
+}
+
+/// Types that are lighter by the prices of the program than its denominator; none where a price passes its width.
+fn found_by(
+    alloc: Global,
+    patches: &Patches,
+    program: &Grown,
+    steps: u64,
+) -> Result<Option<Lightest>, NoMemory>
+    requires { steps ≤ STEPS }
+{
+    let Some(prices) = prices_of(alloc, patches, program)? else {
+        return Ok(None);
+    };
+    let den = program.den();
+    Ok(Some(light_types(alloc, patches, &prices, den, steps)?))
+}
+
+/// The rounds.
+pub(crate) fn rounds(alloc: Global, patches: &Patches) -> Result<Found, NoMemory> {
+    let mut program = first_program(alloc, patches)?;
+    let mut steps = 0;
+    for _ in 0..MOST_ROUNDS {
+        if !program.solve(alloc, patches.total())? {
+            return Ok(Found { part: None, steps });
+        }
+        if program.has(patches.total()) {
+            let part = mixture(alloc, &program)?;
+            return Ok(Found { part, steps });
+        }
+        let Some(light) = found_by(alloc, patches, &program, steps)? else {
+            return Ok(Found { part: None, steps });
+        };
+        steps = light.steps;
+        if light.is_given_up() {
+            return Ok(Found { part: None, steps });
+        }
+        if light.types.is_empty() {
+            let part = violation(alloc, &program)?;
+            return Ok(Found { part, steps });
+        }
+        add_all(alloc, &mut program, light.types.as_slice())?;
+    }
+    Ok(Found { part: None, steps })
+}
