@@ -12,6 +12,8 @@ mod forged;
 #[cfg(test)]
 mod forgeries;
 #[cfg(test)]
+mod generated;
+#[cfg(test)]
 mod limits;
 #[cfg(test)]
 mod many;

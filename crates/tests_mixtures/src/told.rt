@@ -3,6 +3,7 @@ ghost use Rattle.std.specs.Prelude.{◌≤◌, IfSome, length};
 ghost use Rattle.rp_limits.specs.declared.patch.TheConstants.{PATCHES};
 
 use rp_evidence::{RandomPart, Share};
+use rp_generated::generated;
 use rp_limits::patch::UNITS;
 use rp_patch::of_choices::patches;
 use rp_patch::{PatchFault, Patches};
@@ -26,6 +27,10 @@ pub(crate) enum Ask {
     Counts,
     /// The evidence on random choices, its patches from 1.
     Evidence,
+    /// The same by generated types.
+    Generated,
+    /// How much of the total these have, where they make no mixture.
+    GeneratedShare,
 }
 
 /// The sign of a number.
@@ -115,6 +120,27 @@ fn evidence_text(alloc: Global, part: &RandomPart) -> Result<String, AllocError>
     Ok(text)
 }
 
+/// How much of the total the parts have, whole and what is left.
+pub(crate) fn share_text(
+    alloc: Global,
+    part: &RandomPart,
+    total: u64,
+) -> Result<String, AllocError> {
+    match part {
+        RandomPart::Violated { den, parts, .. } if *den > 0 => {
+            let mut weight: u128 = 0;
+            for part in parts.as_slice() {
+                weight = weight.wrapping_add(u128::from(part.weight));
+            }
+            let whole = u64::try_from(weight / u128::from(*den)).unwrap_or(u64::MAX);
+            let rest = u64::try_from(weight % u128::from(*den)).unwrap_or(u64::MAX);
+            format!(in alloc; "violated, {whole} and {rest} left of {total}")
+        }
+        RandomPart::Mixture { .. } => format!(in alloc; "mixture of {total}"),
+        _ => format!(in alloc; "withheld"),
+    }
+}
+
 /// The rational types or the counts, or why there is no list of types.
 fn told_types(alloc: Global, ask: Ask, made: &Patches) -> Result<String, AllocError> {
     let types = match rational_types(alloc, made) {
@@ -148,6 +174,8 @@ fn told_of(alloc: Global, ask: Ask, made: &Patches) -> Result<String, Fail>
         }
         Ask::Types | Ask::Counts => Ok(told_types(alloc, ask, made)?),
         Ask::Evidence => told_evidence(alloc, made),
+        Ask::Generated => Ok(evidence_text(alloc, &generated(alloc, made)?)?),
+        Ask::GeneratedShare => Ok(share_text(alloc, &generated(alloc, made)?, made.total())?),
     }
 }
 
