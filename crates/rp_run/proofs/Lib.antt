@@ -15,4 +15,3 @@ pub mod RunLemmas
 pub mod SomeAnswer
 pub mod SomeCertificate
 pub mod TurnLemmas
-pub mod TypedLemmas

@@ -1,0 +1,2 @@
+mod SmallLemmas
+mod ItemLemmas

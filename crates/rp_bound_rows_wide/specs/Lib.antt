@@ -1,0 +1,2 @@
+pub mod FilledBounds
+pub mod InnerItems
