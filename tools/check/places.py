@@ -72,8 +72,9 @@ FORMATS_LIMITS = {
     "generated.steps": "generates them in {} steps",
 }  # fmt: skip
 USING_LIMITS = {
-    "table.largest": "none may be above {}", "table.places": "At most {} places are taken", "types.combinations": "at most {}, and of rational",
-    "types.types": "rational types, at most {}", "patch.units": "multiple is above {}",
+    "table.largest": "none may be above {}", "table.places": "At most {} places are taken", "types.combinations": "taken in at most {} ways",
+    "types.types": "rational types, at most {}", "patch.units": "multiple is above {}", "patch.patches": "on {} patches",
+    "generated.patches": "up to {} patches", "generated.steps": "within {} steps",
 }  # fmt: skip
 MANUAL_LIMITS = {
     "table.records": "A table has at most {} observations", "table.goods": "observations of {} goods. It", "command_line.rows": "1 to {} observations",
