@@ -54,7 +54,8 @@ export class Client {
 
   /**
    * The status, what is written and what is told, for the words of a command over files; and as `stated` what `rp`
-   * itself writes, where the answer is the wider edition's. An `edition`, `rp` or `rp-wide`, is asked alone.
+   * itself writes, where the answer is the wider edition's, or as `refused` what it tells. An `edition`, `rp` or
+   * `rp-wide`, is asked alone.
    */
   answer(words, files, edition = null) {
     return this.#ask("one", { words, files, edition });

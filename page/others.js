@@ -1,8 +1,17 @@
 /** The answers on the other kinds of files: choices from budgets and from menus, and production. */
-import { button, keepFile, labelled, listOf, make, printed, say } from "./dom.js";
+import { button, folded, keepFile, labelled, listOf, make, printed, say, tableOf } from "./dom.js";
 import { checkQuestion, verdictOf } from "./questions.js";
-import { placesOf } from "./reports.js";
-import { WIDE, WIDE_MEANS, costSays, firmSays, populationSays } from "./says.js";
+import { placesOf, withDecimal } from "./reports.js";
+import {
+  REFUSED_MEANS,
+  WIDE,
+  WIDE_MEANS,
+  costSays,
+  firmSays,
+  patchesIn,
+  populationSays,
+  typesIn,
+} from "./says.js";
 import { parseRecords } from "./sheets.js";
 
 /** The most places of a number in columns with this mark. */
@@ -12,9 +21,30 @@ function placesIn(bytes, mark) {
   return Math.max(0, ...records.slice(1).flatMap((row) => columns.map((at) => placesOf(row[at] ?? ""))));
 }
 
+/** The verdict on choices from budgets, marked where `rp` itself refuses them. */
+function choicesSay(output, refused) {
+  const verdict = populationSays(output, "random");
+  if (!refused) return [verdictOf(verdict)];
+  return [verdictOf({ ...verdict, head: `${verdict.head} ${WIDE}` }), say(REFUSED_MEANS)];
+}
+
+/** The types that make the choices, or as many as rational types can, and the patches that choices fall in. */
+function choicesTables(output, patches) {
+  const types = typesIn(output).map((it) => [it.patches.join(" "), withDecimal(it.share)]);
+  const own = patchesIn(patches).map((it) => [it.patch, it.budget, withDecimal(it.share), it.sides.join(" ")]);
+  const shown = types.length
+    ? [folded("Kinds of people", tableOf(["patch of each budget", "share of all"], types, "the kinds of people"))]
+    : [];
+  const sides =
+    "A patch is what was chosen from a budget on the same side of each other one. Of each budget in order: it costs " +
+    "more than the income there (above), just that (on), or less (below).";
+  const names = ["patch", "budget", "share of its choices", "sides of each budget"];
+  return [...shown, folded("Patches of the budgets", say(sides), tableOf(names, own, "the patches"))];
+}
+
 /** What is said above the program's text of the other kinds of files. */
-function otherSays(kind, { output, stated }, files) {
-  if (kind === "budgets") return [verdictOf(populationSays(output, "random"))];
+function otherSays(kind, { output, stated, refused }, files) {
+  if (kind === "budgets") return choicesSay(output, refused);
   if (kind === "menus") return [verdictOf(populationSays(output, "menus"))];
   const inputs = Number(/^technology .* places \d+ (\d+)$/m.exec(output)[1]);
   const bounds = costSays(output, placesIn(files[1].bytes, /^w_/) + inputs, stated);
@@ -36,7 +66,9 @@ export async function otherAnswers(client, kind, files, per) {
       (await client.answer(["random", ...names, ...units, "--json"], files)).output,
       "application/json",
     );
+    const patches = (await client.answer(["patches", ...names, ...units], files)).output;
     parts.push(
+      ...choicesTables(answer.output, patches),
       make("div", { className: "row" }, button("Make a certificate and keep it", keep)),
       checkQuestion(client, "Check a certificate on these choices", files, ["checkrandom", ...units]),
     );

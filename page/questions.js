@@ -48,7 +48,7 @@ function refusalOf({ status, told }, typed) {
 /** Shows an answer: what it means, and the program's texts; or what is told where there is none. */
 function showAnswer(place, answer, before = [], typed = null) {
   const { output, told } = answer;
-  const text = output ? folded(reportBy(answer.stated), printed(output)) : null;
+  const text = output ? folded(reportBy(answer.stated ?? answer.refused), printed(output)) : null;
   if (text && !before.length) text.open = true;
   place.replaceChildren(
     ...refusalOf(answer, typed),

@@ -240,11 +240,15 @@ export const FAULTS = {
       "blanks.",
   BadChoice: "This is not one letter of the menu.",
   NoMenus: "Every n is 0, so nothing was chosen.",
-  TooManyCells: `There are more than ${written("patch.places")} pairs of a menu and a choice: ask about fewer menus.`,
-  TooManyPatches: `The budgets have more than ${written("patch.patches")} patches: ask about fewer budgets.`,
+  TooManyCells: `There are more than ${written("menu.cells")} pairs of a menu and a choice: ask about fewer menus.`,
+  TooManyPatches:
+    `There are more patches than rp takes, ${written("patch.patches")}, or rp-wide, ` +
+    `${written("generated.patches")}: ask about fewer budgets.`,
   TooManyCombinations:
-    `A patch of each budget can be taken in more than ${written("types.combinations")} ways: ask about fewer budgets.`,
-  TooManyTypes: `There are more than ${written("types.types")} rational types: ask about fewer budgets.`,
+    `A patch of each budget can be taken in more than ${written("types.combinations")} ways, and rp lists no more: ` +
+    "rp-wide takes them.",
+  TooManyTypes:
+    `There are more than ${written("types.types")} rational types, and rp lists no more: rp-wide takes them.`,
   NeedUnit:
     `The numbers of choices have no common multiple up to ${written("patch.units")}: give a number of units, as ` +
     "1000, which takes the shares in thousandths, rounded.",

@@ -10,6 +10,11 @@ export const WIDE_MEANS =
   `${WIDE} marks what rp itself withholds, because an exact number of its own computation gets too long. The wider ` +
   "edition, rp-wide, found evidence, which the checker takes; the verdict is as true.";
 
+/** What the same mark means of choices that `rp` itself refuses. */
+export const REFUSED_MEANS =
+  `${WIDE} marks what is said of choices that rp itself refuses, since they have more patches or types than it ` +
+  "lists. The wider edition, rp-wide, found evidence, which its checker takes; the verdict is as true.";
+
 /** What is said above a report: by which edition it is; `stated` is there where it is the wider one's. */
 export const reportBy = (stated) => `The report, as ${stated ? "rp-wide" : "the program"} prints it`;
 
@@ -112,6 +117,28 @@ export function populationSays(output, command) {
   const units = /^apportioned per (\d+)$/m.exec(output)?.[1];
   const values = { ...(share ? { share, about: about(share) } : {}), ...(units ? { units } : {}) };
   return sentence(command, verdict, { apportioned: Boolean(units) }, values);
+}
+
+/** The types of a report of `random`: of each its patches, one of each budget, and its share of all. */
+export function typesIn(output) {
+  const total = BigInt(/ total (\d+)$/m.exec(output)[1]);
+  const den = BigInt(/ over (\d+)$/m.exec(output)?.[1] ?? 1);
+  return [...output.matchAll(/^part ([\d ]+) weight (\d+)$/gm)].map(([, list, weight]) => ({
+    patches: list.split(" ").map(Number),
+    share: inUnits(`${weight}/${den * total}`, 0),
+  }));
+}
+
+/** The patches of a report of `patches`: of each its budget, its share of the choices there, and its sides. */
+export function patchesIn(output) {
+  const total = / total (\d+)$/m.exec(output)[1];
+  const lines = output.matchAll(/^patch (\d+) budget (\d+) units (\d+) sides ([a-z ]+)$/gm);
+  return [...lines].map(([, patch, budget, units, sides]) => ({
+    patch,
+    budget,
+    share: inUnits(`${units}/${total}`, 0),
+    sides: sides.split(" "),
+  }));
 }
 
 /** What the verdicts of `cost` say, each with its head. */

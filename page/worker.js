@@ -15,13 +15,21 @@ const WITHHELD = {
   cost: / lower withheld /,
 };
 
+/** The commands over choices from budgets, and what is told where `rp` refuses some that the wider edition takes. */
+const OVER_CHOICES = ["random", "checkrandom", "patches"];
+const REFUSED = /^rp: (?:TooManyPatches|TooManyCombinations|TooManyTypes)\b/m;
+
 /**
- * The answer of `rp`; where that withholds something, of the wider edition, and as `stated` what `rp` itself writes.
- * With an `edition` that one alone is asked.
+ * The answer of `rp`; where that withholds something, of the wider edition, and as `stated` what `rp` itself writes;
+ * and where it refuses choices which the wider edition may take, of that, and as `refused` what `rp` itself tells. With
+ * an `edition` that one alone is asked.
  */
 function asked(words, files, edition) {
   if (edition) return library.texts(words, files, edition === "rp-wide");
   const own = library.texts(words, files);
+  if (own.status === 4 && OVER_CHOICES.includes(words[0]) && REFUSED.test(own.told)) {
+    return { ...library.texts(words, files, true), refused: own.told };
+  }
   if (own.status !== 0 || !WITHHELD[words[0]]?.test(own.output)) return own;
   return { ...library.texts(words, files, true), stated: own.output };
 }

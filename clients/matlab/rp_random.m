@@ -5,6 +5,7 @@ function verdict = rp_random(p, w, budget, q, n, varargin)
 %   v = rp_random(p, w, budget, q, n)   p has a row of prices for each budget, w its income; budget, q and n have a row for
 %                                       each choice: the number of its budget, the bundle, and how many times it was made
 %   v = rp_random(.., 'Per', N)         each budget has N units, which the shares are rounded to
+%   v = rp_random(.., 'Wide', false)    the library as it is, which refuses choices with more patches or types than it lists
 %
 % v has the fields
 %
@@ -12,10 +13,11 @@ function verdict = rp_random(p, w, budget, q, n, varargin)
 %   share         the greatest share of the choices that such people make, exactly, as a text; share_double beside it
 %   types, parts  a row for each type of people: its patch of each budget, and its share of all
 %   weights       where it is false: a weight of each patch that shows that no more is possible
+%   wide          whether rp itself refuses these choices, and its wider edition takes them
 %   text          the report itself, whose numbers are exact
 %
-% Shares are taken as they are: this is no statistical test. Patches are told in docs/FORMATS.md.
-  options = rp_options(varargin, struct('Per', [], 'Places', [], 'Numbers', 'exact', 'Names', {{}}));
+% Shares are taken as exact: what a sample leaves to chance is not looked at. Patches are told in docs/FORMATS.md.
+  options = rp_options(varargin, struct('Per', [], 'Places', [], 'Numbers', 'exact', 'Names', {{}}, 'Wide', true));
   goods = size(p, 2);
   names = options.Names;
   if isempty(names)
@@ -34,7 +36,7 @@ function verdict = rp_random(p, w, budget, q, n, varargin)
   if ~isempty(options.Per)
     words = [words, {'--per', sprintf('%d', options.Per)}];
   end
-  text = rp_ask(words, [budgets, choices]);
+  [text, stated] = rp_wider(words, [budgets, choices], options);
   lines = rp_lines(text);
   total = str2double(lines{1}{8});
   verdict = struct('rational', NaN, 'reason', '', 'share', '', 'share_double', NaN, 'types', [], 'parts', [], 'weights', [], 'total', total);
@@ -56,5 +58,6 @@ function verdict = rp_random(p, w, budget, q, n, varargin)
       verdict.parts(end + 1, 1) = str2double(words{end}) / (den * total);
     end
   end
+  verdict.wide = isempty(stated);
   verdict.text = text;
 end

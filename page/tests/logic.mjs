@@ -38,8 +38,10 @@ import {
   demandBounds,
   demandSays,
   firmSays,
+  patchesIn,
   populationSays,
   pumpSays,
+  typesIn,
   utilitySays,
   welfareBounds,
   welfareSays,
@@ -610,6 +612,54 @@ test("the worker asks the wider edition where rp withholds something that it see
   }
   assert.equal(answer(["demand"], [], "rp").output, answers.rp);
   assert.equal(answer(["demand"], [], "rp-wide").output, "more");
+});
+
+test("the worker asks the wider edition about choices that rp refuses, and says what rp tells", () => {
+  const source = readFileSync(new URL("worker.js", import.meta.url), "utf8");
+  const answers = { told: "" };
+  const asked = [];
+  const texts = (words, files, wide = false) => {
+    asked.push(wide);
+    return wide ? { status: 0, output: "more", told: "" } : { status: 4, output: "", told: answers.told };
+  };
+  const begin = new Function("load", "postMessage", "self", `${source}; library = self.library; return asked;`);
+  const answer = begin(null, null, { library: { texts } });
+  const tries = [
+    ["random", "rp: TooManyTypes\n", true],
+    ["random", "note: by the source\nrp: TooManyCombinations\n", true],
+    ["checkrandom", "rp: TooManyPatches budget 7\n", true],
+    ["patches", "rp: TooManyPatches budget 7\n", true],
+    ["random", "rp: NeedUnit budget 2\n", false],
+    ["random", "rp: c.csv: NoChoices budget 2\n", false],
+    ["menus", "rp: m.csv: TooManyCells record 9\n", false],
+  ];
+  for (const [command, told, isWide] of tries) {
+    answers.told = told;
+    asked.length = 0;
+    const given = answer([command, "b.csv", "c.csv"], []);
+    assert.deepEqual(asked, isWide ? [false, true] : [false], `${command}: ${told}`);
+    assert.deepEqual([given.output, given.refused], isWide ? ["more", told] : ["", undefined]);
+  }
+  assert.equal(answer(["random"], [], "rp").told, answers.told);
+});
+
+test("the types and the patches of choices from budgets", () => {
+  const output =
+    "budgets 2 patches 4 types unlisted total 4\nrandom violated share 3/4\nweights 1 0 1 0 over 1\n" +
+    "part 1 4 weight 1\npart 2 3 weight 2\n";
+  assert.deepEqual(typesIn(output), [{ patches: [1, 4], share: "1/4" }, { patches: [2, 3], share: "1/2" }]);
+  assert.equal(populationSays(output, "random").head, "No: no population makes these choices");
+  const mixture = "budgets 1 patches 2 types 2 total 10\napportioned per 10\nrandom mixture over 2\n" +
+    "part 1 weight 5\npart 2 weight 15\n";
+  assert.deepEqual(typesIn(mixture).map((it) => it.share), ["1/4", "3/4"]);
+  assert.deepEqual(typesIn("budgets 2 patches 4 types unlisted total 4\nrandom withheld 9\n"), []);
+  const patches =
+    "budgets 2 patches 2 total 4\napportioned per 4\npatch 1 budget 1 units 3 sides on below\n" +
+    "patch 2 budget 2 units 4 sides above on\n";
+  assert.deepEqual(patchesIn(patches), [
+    { patch: "1", budget: "1", share: "3/4", sides: ["on", "below"] },
+    { patch: "2", budget: "2", share: "1", sides: ["above", "on"] },
+  ]);
 });
 
 test("a line is split into words as by a shell", () => {

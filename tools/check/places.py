@@ -65,10 +65,11 @@ FORMATS_LIMITS = {
     "table.largest_expenditure": "scaled `m` and `w` are at most {}", "table.new_records": "| asked outputs | `w_NAME`, the new price of each input of the technology; `y`, the output that is asked | 1 to {} |",
     "table.budgets": "the income | 1 to {} |", "table.choices": "times it was chosen from it | 1 to {} |", "run.bytes": "A file has at most {} bytes",
     "run.certificate_bytes": "A file of at most {} bytes", "patch.patches": "have more than {} patches", "patch.units": "passes {} |",
-    "patch.places": "more than {} cells", "menu.letters": "one to {} letters", "types.combinations": "more than {} ways",
+    "menu.cells": "more than {} cells", "menu.letters": "one to {} letters", "types.combinations": "more than {} ways",
     "types.types": "more than {} rational types", "command_line.rows": "1 to {} observations of 1 to 16 goods: below under Trials",
     "command_line.draws": "draws N behaviours, 1 to {}", "long.bytes": "long file has at most {} bytes", "long.records": "{} records, an id",
-    "long.household_bytes": "an id {} bytes",
+    "long.household_bytes": "an id {} bytes", "generated.patches": "`rp-wide`: {} |", "patch.places": "`rp-wide`: {} |",
+    "generated.steps": "generates them in {} steps",
 }  # fmt: skip
 USING_LIMITS = {
     "table.largest": "none may be above {}", "table.places": "At most {} places are taken", "types.combinations": "at most {}, and of rational",

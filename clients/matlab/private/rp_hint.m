@@ -11,6 +11,10 @@ function hint = rp_hint(fault)
       hint = ': this question is defined without levels';
     case 'NeedUnit'
       hint = ': say ''Per'', N for a number of units on each, which rounds the shares';
+    case 'TooManyPatches'
+      hint = ': rp takes 48 patches, and its wider edition 256: ask about fewer budgets';
+    case {'TooManyCombinations', 'TooManyTypes'}
+      hint = ': rp lists no more types, and its wider edition takes them: leave ''Wide'', false out';
     case 'NoId'
       hint = ': a row without a household is none''s: give it the name of its household, or leave it out';
     case 'LongId'

@@ -13,9 +13,10 @@ function long = rp_long(t, key, options)
     heads = t.Properties.VariableNames;
   end
   keys = key;
-  if ischar(keys)
-    keys = {keys};
+  if ischar(keys) || isa(keys, 'string')
+    keys = cellstr(keys);
   end
+  keys = keys(:)';
   is_key = iscellstr(keys) && ~isempty(keys) && all(ismember(keys, heads));
   goods = {};
   if is_key

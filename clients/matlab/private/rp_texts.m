@@ -1,6 +1,9 @@
 function texts = rp_texts(numbers, what, how)
 % RP_TEXTS  Numbers as decimals: doubles exactly as they are, unless HOW says otherwise; whole types and texts as they are.
 % HOW is [] (exact), 'shortest', or how many places. They are fields of a file.
+  if isa(numbers, 'string')
+    numbers = cellstr(numbers);
+  end
   if iscellstr(numbers)
     texts = rp_field(numbers);
   elseif isinteger(numbers)

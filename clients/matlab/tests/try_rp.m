@@ -22,6 +22,17 @@ function refused(call, identifier, part)
   error('try_rp: not refused: %s %s', identifier, part);
 end
 
+function [p, w, budget, q, n] = pairs(count, first)
+% Budgets in so many pairs, of which no two bind each other, and choices from them, those of the first pair made so many times. On a pair
+% two choices of four lie below the other budget, and no type has both: the greatest share is 3/4 where 1, 3, 2 and 2 choose on the
+% first pair, and 1 where 3, 1, 3 and 1 do, as they do on the others.
+  p = repmat([1 2; 2 1], count, 1);
+  w = 4 * 3 .^ kron((0:count - 1)', [1; 1]);
+  budget = kron((0:count - 1)', [2; 2; 2; 2]) + repmat([1; 1; 2; 2], count, 1);
+  q = repmat([2 1; 0 2; 1 2; 2 0], count, 1);
+  n = [first(:); repmat([3; 1; 3; 1], count - 1, 1)];
+end
+
 here = fileparts(mfilename('fullpath'));
 addpath(fileparts(here));
 count = 0;
@@ -60,6 +71,16 @@ same({levels.garp, levels.efficiency}, {true, '4/5'}, 'own levels');
 % Random choices.
 r = rp_random([1 2; 2 1], [4 4], [1 1 2 2], [2 1; 0 2; 1 2; 2 0], [1 3 2 2]);
 same({r.rational, r.share, r.types, r.parts, r.weights}, {false, '3/4', [1 4; 2 3], [0.25; 0.5], [1 0 1 0]}, 'random choices');
+same(r.wide, false, 'random choices that rp takes');
+for own = {8, 'TooManyTypes'; 11, 'TooManyCombinations'; 13, 'TooManyPatches'}'
+  [p, w, budget, q, n] = pairs(own{1}, [1 3 2 2]);
+  refused(@() rp_random(p, w, budget, q, n, 'Wide', false), ['rp:Refused:', own{2}], 'wider edition');
+  r = rp_random(p, w, budget, q, n);
+  same({r.rational, r.share, r.wide, abs(sum(r.parts) - 0.75) < 1e-12}, {false, '3/4', true, true}, 'choices that rp refuses');
+  [p, w, budget, q, n] = pairs(own{1}, [3 1 3 1]);
+  r = rp_random(p, w, budget, q, n);
+  same({r.rational, r.share, r.wide, size(r.types, 2)}, {true, '1', true, 2 * own{1}}, 'a mixture of choices that rp refuses');
+end
 
 % Numbers: each double exactly as it is, and nothing rounded unasked.
 same(rp_mex([0.5 -0 3.18; 100 0.1 9999999]), {'0.5', '0', '3.180000000000000159872115546022541821002960205078125'; ...

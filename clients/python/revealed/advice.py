@@ -17,6 +17,7 @@ MEANT = "docs/USING.md, 'A table that keeps its verdict'"
 LEVEL_HINT = f"levels are whole thousandths of what was spent, from 1 to {LIMITS['table.level_scale']}: 0.8 of it is 800"
 NAME_HINT = f"a name has 1 to {LIMITS['table.name_bytes']} bytes, none of them a control character, and stands once"
 FEWER = "ask about fewer budgets"
+WIDER = "rp lists no more, and rp-wide takes them: leave wide=False out, and have it beside the program, in the library, or named by RP_WIDE"
 # What to do about each fault of the catalogue where nothing more is known: one for each, and no other (tests/test_catalogue.py).
 HINTS = {
     "Empty": "there is no line at all: see why nothing was written",
@@ -40,16 +41,16 @@ HINTS = {
     "BadMenu": f"a menu is one to {LIMITS['menu.letters']} of the letters from a on, each after the one before it, without blanks",
     "BadChoice": "the letter that was chosen is one of its menu",
     "NoMenus": "every n is 0, so nothing was chosen",
-    "TooManyCells": f"there are more than {LIMITS['patch.places']} pairs of a menu and a choice: ask about fewer menus",
+    "TooManyCells": f"there are more than {LIMITS['menu.cells']} pairs of a menu and a choice: ask about fewer menus",
     "NotJson": "a certificate is JSON in UTF-8",
     "BadVersion": "a certificate has the version 1, or with levels 2",
     "BadShape": "the item is none of its kind, or has a number that no item has; item 0 is the certificate as a whole",
     "TooLong": f"a file has at most {LIMITS['run.bytes']:,} bytes, and a certificate {LIMITS['run.certificate_bytes']:,}",
     "OwnLevels": "this is defined on a table without levels: leave the column 'e', or the argument levels, out",
-    "TooManyPatches": f"there are more than {LIMITS['patch.patches']} patches: {FEWER}",
+    "TooManyPatches": f"rp takes {LIMITS['patch.patches']} patches, and rp-wide {LIMITS['generated.patches']}: {FEWER}",
     "NeedUnit": f"the counts have no common multiple up to {LIMITS['patch.units']:,}: per=1000 takes the shares in thousandths, rounded",
-    "TooManyCombinations": f"a patch of each budget can be taken in more than {LIMITS['types.combinations']:,} ways: {FEWER}",
-    "TooManyTypes": f"there are more than {LIMITS['types.types']:,} rational types: {FEWER}",
+    "TooManyCombinations": f"a patch of each budget can be taken in more than {LIMITS['types.combinations']:,} ways: {WIDER}",
+    "TooManyTypes": f"there are more than {LIMITS['types.types']:,} rational types: {WIDER}",
 }
 # And about those of a panel, beside these.
 PANEL_HINTS = {

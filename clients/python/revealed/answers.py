@@ -211,6 +211,8 @@ class Verdict:
 
 
 BY_WIDE = " (by rp-wide; rp itself withholds it)"
+TAKEN_BY_WIDE = " (by rp-wide; rp itself refuses these choices)"
+UNFOUND = "rp-wide found no evidence in {} steps of its search; fewer budgets, or coarser shares by per=, make that shorter"
 NO_PROOF = "by plain whole numbers: no proof stands behind this, and verify looks at its evidence"
 
 
@@ -497,12 +499,15 @@ class RandomVerdict:
     `rational` is True, False, or None where the verdict is withheld: then `reason` says why. `share` is the greatest share
     of the choices that rational types make, a Fraction, 1 where `rational` is True. `parts` are the types that make it.
     `weights` are, where `rational` is False, the weight of each patch that shows that no more is possible: each rational
-    type weighs 1 or more. `patches` are those that these types have; `revealed.patches` tells the sides of all. `choices` and `certificate` are what `verify` and `check` take.
+    type weighs 1 or more. `patches` are those that these types have; `revealed.patches` tells the sides of all. `wide` is whether
+    `rp` itself refuses these choices, since they have more patches or types than it lists. `choices` and `certificate` are what
+    `verify` and `check` take.
     """
 
-    def __init__(self, choices: Choices, certificate: Certificate) -> None:
+    def __init__(self, choices: Choices, certificate: Certificate, wide: bool = False) -> None:
         self.choices = choices
         self.certificate = certificate
+        self.wide = wide
         self.rational: bool | None = None
         self.reason: str | None = None
         self.share: Fraction | None = None
@@ -512,7 +517,7 @@ class RandomVerdict:
             (item,) = certificate.items
             self.total = exact.whole_of(item["total"])
             if "withheld" in item:
-                self.reason = withheld(item["withheld"])
+                self.reason = UNFOUND.format(item["withheld"]) if wide else withheld(item["withheld"])
                 return
             den = exact.whole_of(item["den"])
             self.parts = [Part(patches, Fraction(exact.whole_of(weight), den * self.total)) for patches, weight in item["parts"]]
@@ -535,15 +540,17 @@ class RandomVerdict:
     def __repr__(self) -> str:
         if self.rational is None:
             return f"random withheld: {self.reason}"
-        return "random mixture" if self.rational else f"random violated share {self.share}"
+        return f"{'random mixture' if self.rational else f'random violated share {self.share}'}{TAKEN_BY_WIDE if self.wide else ''}"
 
 
 class Checked:
     """What the program's checker says. It is true where it accepts and some item of the certificate proves its verdict: one
-    without items, or that withholds all, proves nothing. Where it rejects, `item`, `reason` and `place` say what fails first."""
+    without items, or that withholds all, proves nothing. Where it rejects, `item`, `reason` and `place` say what fails first.
+    `wide` is whether `rp` itself refuses the data; the reason may be `Steps` then: there are more types to look through than steps."""
 
-    def __init__(self, line: str, certificate: bytes) -> None:
+    def __init__(self, line: str, certificate: bytes, wide: bool = False) -> None:
         self.line = line.strip()
+        self.wide = wide
         words = line.split()
         with reading(line.encode()):
             self.accepted = words[0] == "accepted"

@@ -144,25 +144,37 @@ def cost_minimisation(
     return CostMinimisation(own, sheet, given.out.encode(), asked is not None, _stated(given), given.hint)
 
 
-def random_utility(budgets: Any, choices: Any, per: Any = None, *, places: Any = None, numbers: Any = "exact", exe: Any = None) -> RandomVerdict:
+def random_utility(
+    budgets: Any, choices: Any, per: Any = None, *, places: Any = None, numbers: Any = "exact", exe: Any = None, wide: bool = True
+) -> RandomVerdict:
     """Returns the RandomVerdict on choices from budgets.
 
     Budgets are a frame with `p_NAME` for each good and `w`, the income, or rows of prices that end with the income. Choices
     are a frame with `budget`, `q_NAME` and `n`, or rows that begin with the budget and end with how many times. A budget is
-    its number, from 1; where the frame of budgets has `obs`, it is what stands there. `per` asks for so many units of each.
+    its number, from 1; where the frame of budgets has `obs`, it is what stands there. `per` asks for so many units of each. Shares
+    are taken as exact: what a sample leaves to chance is not looked at. Choices with more patches or types than the program lists
+    its wider edition is asked about; `wide=False` asks the program alone.
     """
     own = Choices(budgets, choices, per, forms_of(places, numbers))
-    words = ["random", BUDGETS, CHOICES, "--json", *_units(own.per)]
-    out = program.answer(words, {BUDGETS: own.budgets.csv(), CHOICES: own.choices.csv()}, exe, _explains_choices(own))
-    return RandomVerdict(own, Certificate(out.encode()))
+    out, is_wide = _of_choices(["random", BUDGETS, CHOICES, "--json", *_units(own.per)], own, exe, wide)
+    return RandomVerdict(own, Certificate(out.encode()), is_wide)
 
 
-def choice_patches(budgets: Any, choices: Any, per: Any = None, *, places: Any = None, numbers: Any = "exact", exe: Any = None) -> list[Patch]:
+def choice_patches(
+    budgets: Any, choices: Any, per: Any = None, *, places: Any = None, numbers: Any = "exact", exe: Any = None, wide: bool = True
+) -> list[Patch]:
     """Returns the patches that choices from budgets fall in: of each its budget, its share of that budget's choices, and the side of
-    every budget on which it lies. Budgets, choices and `per` are those of `random_utility`, and the patches have its numbers."""
+    every budget on which it lies. Budgets, choices, `per` and `wide` are those of `random_utility`, and the patches have its numbers."""
     own = Choices(budgets, choices, per, forms_of(places, numbers))
+    out, _ = _of_choices(["patches", BUDGETS, CHOICES, *_units(own.per)], own, exe, wide)
+    return patches_of(own, out)
+
+
+def _of_choices(words: list[str], own: Choices, exe: Any, wide: bool) -> tuple[str, bool]:
+    """Returns the answer of words over choices from budgets, and whether that is the wider edition's."""
     files = {BUDGETS: own.budgets.csv(), CHOICES: own.choices.csv()}
-    return patches_of(own, program.answer(["patches", BUDGETS, CHOICES, *_units(own.per)], files, exe, _explains_choices(own)))
+    ran, is_wide = program.of_choices(words, files, exe, wide)
+    return program.output(ran, _explains_choices(own)), is_wide
 
 
 def menu_choices(choices: Any, per: Any = None, *, exe: Any = None) -> MenuVerdict:
@@ -179,8 +191,9 @@ def menu_choices(choices: Any, per: Any = None, *, exe: Any = None) -> MenuVerdi
 # ---- certificates
 
 
-def check(data: Any, certificate: Any, *, per: Any = None, exe: Any = None) -> Checked:
-    """Returns what the program's checker says of a certificate on a table or on choices.
+def check(data: Any, certificate: Any, *, per: Any = None, exe: Any = None, wide: bool = True) -> Checked:
+    """Returns what the program's checker says of a certificate on a table or on choices; of choices that the program refuses what
+    that of its wider edition says, but with `wide=False`.
 
     The data are a Table, Choices or the Verdict on one; the two sides p and q in a tuple; or the name of a CSV file, its text or
     its bytes, or in a tuple those of budgets and of choices. The certificate is a Certificate, its JSON as a text, bytes or a
@@ -192,9 +205,9 @@ def check(data: Any, certificate: Any, *, per: Any = None, exe: Any = None) -> C
         raise BadData("the program checks certificates alone; verify looks at reports of pump, menus and cost")
     files[CERTIFICATE] = claimed
     words = ["check", TABLE] if TABLE in files else ["checkrandom", BUDGETS, CHOICES]
-    ran = program.call([*words, CERTIFICATE, *_units(per)], files, exe)
+    ran, is_wide = program.of_choices([*words, CERTIFICATE, *_units(per)], files, exe, wide)
     if ran.status in (0, 1):
-        return Checked(ran.out, claimed)
+        return Checked(ran.out, claimed, is_wide)
     if ran.refusal is None:
         raise Failed(ran.status, ran.said)
     raise explain(*ran.refusal)

@@ -196,17 +196,36 @@ def given(words: Sequence[str], files: Mapping[str, bytes], exe: Any = None, exp
     if that is there and `wide` is true."""
     ran = call(words, files, exe)
     out = output(ran, explain)
-    if not switch(wide, "wide") or not wider.is_withheld(words[0], (ran.status, ran.out.encode(), b"")):
+    if not switch(wide, "wide") or not wider.is_withheld(words[0], ended_of(ran)):
         return Given(out, None, wider.ASKED if wide else wider.UNASKED)
+    more = call_wide(words, files, exe)
+    return Given(out, None, wider.ABSENT) if more is None else Given(output(more, explain), out, wider.ASKED)
+
+
+def of_choices(words: Sequence[str], files: Mapping[str, bytes], exe: Any = None, wide: Any = True) -> tuple[Ran, bool]:
+    """Returns how a call over choices from budgets ended, and whether that is the end of the wider edition, which is asked where the
+    program itself refuses choices that this may take, if it is there and `wide` is true."""
+    ran = call(words, files, exe)
+    if not switch(wide, "wide") or not wider.is_refused(words[0], ended_of(ran)):
+        return ran, False
+    more = call_wide(words, files, exe)
+    return (ran, False) if more is None else (more, True)
+
+
+def call_wide(words: Sequence[str], files: Mapping[str, bytes], exe: Any = None) -> Ran | None:
+    """Returns how a call of the wider edition ended; None where that is not there."""
     found = wide_way(exe)
     if found is None:
-        return Given(out, None, wider.ABSENT)
+        return None
     run, path = found
     try:
-        more = ran_of(*(run or worker.run)(path, words, files))
+        return ran_of(*(run or worker.run)(path, words, files))
     except OSError as wrong:
         raise NoProgram(f"{path} cannot be run: {wrong}") from wrong
-    return Given(output(more, explain), out, wider.ASKED)
+
+
+def ended_of(ran: Ran) -> wider.Ended:
+    return ran.status, ran.out.encode(), ran.said.encode()
 
 
 def hint_of(wide: bool, is_there: bool) -> str:

@@ -1,11 +1,13 @@
-"""What the program withholds and its wider edition gives: the program `rp-wide`, or the call `rp_answer_wide` of the library.
+"""What the program leaves and its wider edition gives: the program `rp-wide`, or the call `rp_answer_wide` of the library.
 
-The program is asked first, and the wider edition only where something is withheld of which it seeks evidence: where nothing is
-withheld, both write the same. What comes of it is the wider answer, and beside it what the program itself said.
+The program is asked first, and the wider edition only where something is withheld of which it seeks evidence, or where choices are
+refused that it takes: elsewhere both write the same. What comes of it is the wider answer, and beside it what the program itself
+said.
 """
 
 from __future__ import annotations
 
+import re
 from typing import Callable, Mapping, NamedTuple, Optional, Sequence
 
 # How a call ended: its status, and what it wrote to standard output and standard error.
@@ -20,6 +22,10 @@ WITHHELD = {
     "welfare": b'"withheld":',
     "cost": b" lower withheld ",
 }
+# The faults by which the program refuses choices from budgets that its wider edition takes, and the commands over these.
+REFUSED = ("TooManyPatches", "TooManyCombinations", "TooManyTypes")
+OVER_CHOICES = ("random", "checkrandom", "patches")
+REFUSAL = re.compile(rb"(?m)^rp: (?:%s)\b" % "|".join(REFUSED).encode())
 # What is said of a value that stays withheld: the wider edition was asked, it was not to be asked, or it is not there.
 ASKED = "rp-wide found no evidence either; docs/USING.md, 'When a verdict is withheld', tells what can be done"
 UNASKED = "rp-wide may give it: leave wide=False out"
@@ -44,6 +50,12 @@ def is_withheld(command: str, ended: Ended) -> bool:
     """Whether an answer withholds something of which the wider edition seeks evidence."""
     status, out, _ = ended
     return status == 0 and command in WITHHELD and WITHHELD[command] in out
+
+
+def is_refused(command: str, ended: Ended) -> bool:
+    """Whether choices from budgets are refused that the wider edition may take."""
+    status, _, said = ended
+    return status == 4 and command in OVER_CHOICES and REFUSAL.search(said) is not None
 
 
 def told(calls: Calls, words: Sequence[str], files: Mapping[str, bytes]) -> Told:

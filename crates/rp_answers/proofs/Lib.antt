@@ -1,8 +1,10 @@
 pub mod AcceptedLemmas
 pub mod BoundItems
+pub mod CheckedFits
 pub mod ChosenBundles
 pub mod GarpFirstLemmas
 pub mod GarpTestLemmas
+pub mod OneWithinFinding
 pub mod ReadBackLemmas
 pub mod TrialLemmas
 pub mod UtilityLemmas

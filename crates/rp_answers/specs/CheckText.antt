@@ -1,10 +1,11 @@
 -- What `check` and `checkrandom` print: a line on what the checker says of a certificate (this program's own text), and
 -- what an accepted certificate shows.
-use Rattle.std.specs.Prelude.{◌≡◌, ◌++◌, ◌-◌, ◌^◌, ℕ, List, All, codes, length, min, sum_by}
+use Rattle.std.specs.Prelude.{◌≡◌, ◌++◌, ◌-◌, ◌^◌, ℕ, List, All, Option, Some, None, codes, length, min, sum_by}
 use Rattle.std.specs.Fmt.{decimal}
 use Rattle.rp_table.specs.Tables.{Observations}
 use Rattle.rp_check.specs.CheckVerdict.{IsCheckVerdict}
 use Rattle.rp_check.specs.RandomCheckVerdict.{IsRandomCheckVerdict}
+use Rattle.rp_check.specs.RandomCheckWithin.{IsRandomCheckVerdictWithin}
 use Rattle.rp_check.specs.declared.verdict.Verdict.{Verdict}
 use Rattle.rp_check.specs.declared.verdict.Verdict.TheVariants.{Accepted, Rejected}
 use Rattle.rp_evidence.specs.Input.{input_of_table}
@@ -14,11 +15,13 @@ use Rattle.rp_evidence.specs.declared.certificate.Certificate.{Certificate}
 use Rattle.rp_evidence.specs.declared.certificate.Item.{Item}
 use Rattle.rp_evidence.specs.declared.failure.Reason.{Reason}
 use Rattle.rp_evidence.specs.declared.failure.Reason.TheVariants as reason
+use Rattle.rp_limits.specs.declared.generated.TheConstants.{STEPS}
 use Rattle.rp_patch.specs.Patches.{PatchList}
 use Rattle.rp_patch.specs.RandomEvidence.{ProvesOnPatches}
 use Rattle.rp_people.specs.Says.{HasPricesAboveZero, Says}
 use Rattle.rp_persons.specs.SaysRandom.{SaysOnPatches}
 use Rattle.rp_print.specs.ListText.{line_of}
+use Rattle.rp_types.specs.declared.types.Rational.{Rational}
 use Rattle.rp_answers.specs.declared.status.Status.{Status}
 use Rattle.rp_answers.specs.declared.status.Status.TheVariants as status
 
@@ -79,10 +82,16 @@ pub record IsTableCheck (table : Observations) (certificate : Certificate) (s : 
   pub ends : s ≡ check_status verdict
   pub tells : text ≡ check_line certificate.items verdict
 
+-- the checker's verdict on items on choices from budgets: within the steps of a search where their types are not listed
+abbrev pub IsChoicesVerdict : PatchList → Option (List Rational) → List Item → Verdict → Type 0
+IsChoicesVerdict p (Some types) items verdict = IsRandomCheckVerdict p items verdict
+IsChoicesVerdict p None items verdict = IsRandomCheckVerdictWithin p items STEPS verdict
+
 -- the same on choices from budgets, whose items say so of persons
-pub record IsRandomCheck (p : PatchList) (certificate : Certificate) (s : Status) (text : List ℕ) : Type 0 where
+pub record IsRandomCheck (p : PatchList) (types : Option (List Rational)) (certificate : Certificate) (s : Status)
+    (text : List ℕ) : Type 0 where
   pub verdict : Verdict
-  pub found : IsRandomCheckVerdict p certificate.items verdict
+  pub found : IsChoicesVerdict p types certificate.items verdict
   pub proves : verdict ≡ Accepted → All (ProvesOnPatches p) certificate.items
   pub says : verdict ≡ Accepted → All (SaysOnPatches p) certificate.items
   pub ends : s ≡ check_status verdict

@@ -1,9 +1,12 @@
 pub mod Accepted
 pub mod AnalysisText
 pub mod CheckText
+pub mod ChoiceLimits
+pub mod ChoicesText
 pub mod CostText
 pub mod DemandText
 pub mod GarpFirst
+pub mod GeneratedText
 pub mod MenusText
 pub mod PairsText
 pub mod PatchesText

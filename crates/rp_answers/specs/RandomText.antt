@@ -1,6 +1,6 @@
 -- What `random` prints: the report, or the JSON, of a certificate with the one item on whether rational types make the
 -- choices (McFadden and Richter 1990).
-use Rattle.std.specs.Prelude.{◌≡◌, ℕ, Bool, List, if◌then◌else◌, length}
+use Rattle.std.specs.Prelude.{◌≡◌, ℕ, Bool, List, Some, if◌then◌else◌, length}
 use Rattle.rp_check.specs.RandomCheckVerdict.{IsRandomCheckVerdict}
 use Rattle.rp_check.specs.declared.verdict.Verdict.TheVariants.{Accepted}
 use Rattle.rp_evidence.specs.Certificates.{random_certificate}
@@ -31,4 +31,4 @@ abbrev pub IsRandomText : Bool → TypedPatches → List ℕ → Type 0
 IsRandomText json choices text =
     (certificate : Certificate) × IsRandomAnswer choices certificate
     × (text ≡ (if json then certificate_text certificate
-    else random_report_text choices.patches (length choices.types) certificate.items))
+    else random_report_text choices.patches (Some (length choices.types)) certificate.items))

@@ -1,20 +1,26 @@
 //! The answers of `check` and `checkrandom`.
-ghost use Rattle.std.specs.Prelude.{◌≡◌, ◌++◌, IfOk, OnOk};
+ghost use Rattle.std.specs.Prelude.{◌≡◌, ◌++◌, All, IfOk, OnOk};
 ghost use Rattle.rp_evidence.specs.Kinds.{IsCertificateOf};
 ghost use Rattle.rp_evidence.specs.declared.certificate.Kind.TheVariants.{Table as TableKind};
 ghost use Rattle.rp_evidence.specs.declared.certificate.Kind.TheVariants.{Random as RandomKind};
-ghost use Rattle.rp_answers.specs.CheckText.{IsRandomCheck, IsTableCheck, accepted_line, check_line};
+ghost use Rattle.rp_answers.specs.CheckText.{IsChoicesVerdict, IsRandomCheck, IsTableCheck};
+ghost use Rattle.rp_answers.specs.CheckText.{accepted_line, check_line};
 ghost use Rattle.rp_answers.specs.CheckText.{check_status};
 ghost use Rattle.rp_answers.specs.CheckText.{reason_name, rejected_line};
+ghost use Rattle.rp_check.specs.declared.verdict.Verdict.TheVariants.{Accepted};
+ghost use Rattle.rp_patch.specs.RandomEvidence.{ProvesOnPatches};
+ghost use Rattle.rp_persons.specs.SaysRandom.{SaysOnPatches};
 
 use crate::answer::Answer;
 use crate::status::Status;
-use rp_check::{Reason, Verdict, check, check_random};
+use rp_check::{Reason, Verdict, check, check_random, check_random_within};
 use rp_evidence::{Certificate, withheld};
-use rp_num::NoMemory;
+use rp_limits::generated::STEPS;
+use rp_num::{NoMemory, Seq};
 use rp_patch::Patches;
 use rp_print::{LongNumber, Number, push_after};
 use rp_table::{Costs, Table};
+use rp_types::Rational;
 use std::alloc::Global;
 
 /// What the checker says of a certificate on a table.
@@ -36,22 +42,41 @@ pub fn check_answer(
     })
 }
 
-/// What the checker says of a certificate on choices from budgets.
+/// What the checker says of a certificate on choices from budgets: within the steps of a search where their rational
+/// types are not listed.
 pub fn check_random_answer(
     alloc: Global,
     patches: &Patches,
+    types: &Option<Seq<Rational>>,
     certificate: &Certificate,
 ) -> Result<Answer, NoMemory>
     requires { IsCertificateOf RandomKind certificate.now }
     ensures { IfOk result (λ answer.
-        IsRandomCheck patches.now certificate.now answer.status answer.text.items) }
+        IsRandomCheck patches.now types.now certificate.now answer.status answer.text.items) }
 {
-    let outcome = check_random(patches, certificate);
+    let outcome = verdict_on_choices(patches, types, certificate);
     let text = check_line(alloc, certificate, outcome)?;
     Ok(Answer {
         status: status_of(outcome),
         text,
     })
+}
+
+/// The checker's verdict on a certificate on choices from budgets.
+fn verdict_on_choices(
+    patches: &Patches,
+    types: &Option<Seq<Rational>>,
+    certificate: &Certificate,
+) -> Verdict
+    requires { IsCertificateOf RandomKind certificate.now }
+    ensures found { IsChoicesVerdict patches.now types.now certificate.now.items result }
+    ensures proves { result ≡ Accepted → All (ProvesOnPatches patches.now) certificate.now.items }
+    ensures says { result ≡ Accepted → All (SaysOnPatches patches.now) certificate.now.items }
+{
+    match types {
+        Some(_) => check_random(patches, certificate),
+        None => check_random_within(patches, certificate, STEPS),
+    }
 }
 
 /// How a call ends that tells this outcome.

@@ -11,6 +11,7 @@ ghost use Rattle.rp_answers.specs.Printed.{Printed, as_stated};
 ghost use Rattle.rp_answers.specs.TrialTable.{trial_of};
 ghost use Rattle.rp_answers.specs.TrialText.{AreVerdicts};
 
+use crate::choice_limits::ChoiceLimits;
 use crate::shared::report_or_json;
 use crate::trial::{Verdicts, report_trial};
 use rp_command_line::usage;
@@ -20,8 +21,8 @@ use rp_num::{NoMemory, Seq};
 use rp_table::Table;
 use std::alloc::Global;
 
-/// An edition of the program. Two of them differ in this alone: what is printed of what was computed, and how the
-/// program is called.
+/// An edition of the program. Two of them differ in this alone: what is printed of what was computed, how the program is
+/// called, and which choices from budgets it answers.
 pub trait Edition {
     /// What is printed.
     ghost printed: { Printed };
@@ -69,6 +70,10 @@ pub trait Edition {
     /// How the program is called.
     fn usage() -> &'static [u8]
         ensures { result.now ≡ (Self.printed).usage };
+
+    /// Which choices from budgets are answered.
+    fn limits() -> ChoiceLimits
+        ensures { result ≡ (Self.printed).limits };
 }
 
 /// The edition that prints what was computed as it stands: `rp`.
@@ -108,5 +113,9 @@ impl Edition for AsStated {
 
     fn usage() -> &'static [u8] {
         usage()
+    }
+
+    fn limits() -> ChoiceLimits {
+        ChoiceLimits::Listed
     }
 }

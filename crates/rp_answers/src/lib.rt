@@ -4,6 +4,7 @@
 mod analysis;
 mod answer;
 mod check;
+mod choice_limits;
 mod cost;
 mod demand;
 mod edition;
@@ -23,6 +24,7 @@ mod welfare;
 pub use analysis::analysis_text;
 pub use answer::Answer;
 pub use check::{check_answer, check_random_answer};
+pub use choice_limits::ChoiceLimits;
 pub use cost::cost_text;
 pub use demand::demand_text;
 pub use edition::{AsStated, Edition};

@@ -1,10 +1,12 @@
 //! The answer of `random`.
 ghost use Rattle.std.specs.Prelude.{IfOk};
-ghost use Rattle.rp_answers.specs.Typed.{AreTyped};
-ghost use Rattle.rp_answers.specs.Typed.{typed};
+ghost use Rattle.rp_answers.specs.ChoicesText.{IsChoicesText};
+ghost use Rattle.rp_answers.specs.GeneratedText.{IsGeneratedAnswer, IsGeneratedText};
 ghost use Rattle.rp_answers.specs.RandomText.{IsRandomAnswer, IsRandomText};
+ghost use Rattle.rp_answers.specs.Typed.{AreTyped, AreTypedIfListed, typed};
 
 use rp_evidence::Certificate;
+use rp_generated::generated;
 use rp_json::write;
 use rp_num::{NoMemory, Seq};
 use rp_patch::Patches;
@@ -13,8 +15,25 @@ use rp_report::report_random;
 use rp_types::Rational;
 use std::alloc::Global;
 
-/// The report on choices from budgets, or its certificate as JSON.
+/// The report on choices from budgets, or its certificate as JSON: by all their rational types where these are listed,
+/// else by types that are generated.
 pub fn random_text(
+    alloc: Global,
+    patches: &Patches,
+    types: &Option<Seq<Rational>>,
+    json: bool,
+) -> Result<Vec<u8>, NoMemory>
+    requires { AreTypedIfListed patches.now types.now }
+    ensures { IfOk result (λ text. IsChoicesText json patches.now types.now text.items) }
+{
+    match types {
+        Some(types) => listed_text(alloc, patches, types, json),
+        None => generated_text(alloc, patches, json),
+    }
+}
+
+/// The report on choices whose rational types are listed, or its certificate as JSON.
+fn listed_text(
     alloc: Global,
     patches: &Patches,
     types: &Seq<Rational>,
@@ -27,11 +46,12 @@ pub fn random_text(
     if json {
         write(alloc, &certificate)
     } else {
-        report_random(alloc, &certificate, patches, types.as_slice().len() as u32)
+        let count = types.as_slice().len() as u32;
+        report_random(alloc, &certificate, patches, Some(count))
     }
 }
 
-/// The certificate on choices from budgets.
+/// The certificate on choices whose rational types are listed.
 fn random_answer(
     alloc: Global,
     patches: &Patches,
@@ -42,6 +62,28 @@ fn random_answer(
 {
     prove!(patches.budgets() >= 1);
     let evidence = random(alloc, patches, types)?;
+    let certificate = Certificate::of_random(alloc, patches.total(), evidence)?;
+    Ok(certificate)
+}
+
+/// The report on choices whose rational types are not listed, or its certificate as JSON.
+fn generated_text(alloc: Global, patches: &Patches, json: bool) -> Result<Vec<u8>, NoMemory>
+    ensures { IfOk result (λ text. IsGeneratedText json patches.now text.items) }
+{
+    let certificate = generated_answer(alloc, patches)?;
+    if json {
+        write(alloc, &certificate)
+    } else {
+        report_random(alloc, &certificate, patches, None)
+    }
+}
+
+/// The certificate on choices whose rational types are not listed.
+fn generated_answer(alloc: Global, patches: &Patches) -> Result<Certificate, NoMemory>
+    ensures { IfOk result (IsGeneratedAnswer patches.now) }
+{
+    prove!(patches.budgets() >= 1);
+    let evidence = generated(alloc, patches)?;
     let certificate = Certificate::of_random(alloc, patches.total(), evidence)?;
     Ok(certificate)
 }

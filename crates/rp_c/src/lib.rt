@@ -5,7 +5,8 @@
 
 ghost use Rattle.std.specs.Prelude.{◌≡◌, pos};
 ghost use Rattle.rp_frame.specs.Frames.{frame_of};
-ghost use Rattle.rp_call.specs.CallEndings.{EndsSo, EndsSoBy, IsDecided, ending_number};
+ghost use Rattle.rp_call.specs.CallEndings.{EndsSo, EndsSoBy, IsDecided, IsDecidedBy};
+ghost use Rattle.rp_call.specs.CallEndings.{ending_number};
 ghost use Rattle.rp_call.specs.NamedFiles.{NamesSo};
 ghost use Rattle.rp_call.specs.declared.ending.Ending.{Ending};
 ghost use Rattle.rp_panel_call.specs.NamedFiles as PanelNames;
@@ -66,7 +67,7 @@ pub extern "C" fn rp_answer_wide(
     ensures { (ending : Ending) × (result ≡ pos (ending_number ending))
         × EndsSoBy as_filled (frame_of words.now names.now sizes.now bytes.now) ending
         output.old output.new output_length.new told.old told.new told_length.new
-        × IsDecided (frame_of words.now names.now sizes.now bytes.now) ending }
+        × IsDecidedBy as_filled (frame_of words.now names.now sizes.now bytes.now) ending }
 {
     answer_edition::<Filled>(
         alloc,

@@ -2,19 +2,20 @@
 use Rattle.std.proofs.Common.{◌≡◌, ◌<◌, ℕ, List, Some, None, Ok, Err, inl, inr, refl, subst, ap, arith, length}
 use Rattle.rp_command_line.specs.CommandLine.{Line, files_of}
 use Rattle.rp_answers.specs.Printed.{Printed}
+use Rattle.rp_answers.specs.declared.choice_limits.ChoiceLimits.{ChoiceLimits}
 use Rattle.rp_answers.specs.declared.status.Status.{Status}
 use Rattle.rp_answers.specs.declared.status.Status.TheVariants.{Done, Rejected, Usage, ReadFault, Refused, WriteFault, NoMemory}
 use Rattle.rp_patch.proofs.Determined.{same_list}
 use Rattle.rp_types.proofs.Determined.{types_once}
 use Rattle.rp_run.proofs.OneAnswer.{denotes_one}
 use Rattle.rp_run.proofs.RunLemmas.{not_both}
-use Rattle.rp_run.specs.Answers.{IsAccepted, IsRefused, RefusesWith}
-use Rattle.rp_run.specs.Contents.{Contents, Denotes}
+use Rattle.rp_run.specs.Answers.{IsAcceptedBy, IsRefusedBy, RefusesWithBy}
+use Rattle.rp_run.specs.Contents.{Contents, DenotesBy}
 use Rattle.rp_run.specs.Endings.{IsEnd}
 use Rattle.rp_frame.specs.Frames.{Frame, Request, request_in}
 use Rattle.rp_frame.specs.Given.{AreGiven, IsFirstMissing}
 use Rattle.rp_frame.specs.Handed.{IsText}
-use Rattle.rp_call.specs.CallEndings.{Asks, HasTooMany, IsDecided, IsEndingOf, IsRunOf, IsStatusOf, Requests, asked_of, given_files}
+use Rattle.rp_call.specs.CallEndings.{Asks, HasTooMany, IsDecidedBy, IsEndingOf, IsRunOf, IsStatusOf, Requests, asked_of, given_files}
 use Rattle.rp_call.specs.declared.ending.Ending.{Ending}
 use Rattle.rp_call.specs.declared.ending.Ending.TheVariants.{Ran, NoText, Malformed}
 
@@ -35,17 +36,17 @@ given_apart request line other k asks given also first =
     let here = subst (λ (l : Line). IsFirstMissing request.files (files_of l) k) (one_line request other line also.asked asks.asked) first in
     given k here.within here.missing
 
-denoted_apart : (line : Line) (bytes : ℕ → List ℕ) (held : Contents) (text : List ℕ) → Denotes line bytes (Ok held) → Denotes line bytes (Err text) → ⊥
-denoted_apart line bytes held text taken refused =
-    let wrong : Ok held ≡ Err text = denotes_one same_list types_once line bytes (Ok held) (Err text) taken refused in
+denoted_apart : (limits : ChoiceLimits) (line : Line) (bytes : ℕ → List ℕ) (held : Contents) (text : List ℕ) → DenotesBy limits line bytes (Ok held) → DenotesBy limits line bytes (Err text) → ⊥
+denoted_apart limits line bytes held text taken refused =
+    let wrong : Ok held ≡ Err text = denotes_one same_list types_once limits line bytes (Ok held) (Err text) taken refused in
     cc
 
-accepted_apart : (request : Request) (line other : Line) (told : List ℕ) → Asks request line → Asks request other
-    → IsAccepted (given_files request) line → RefusesWith (given_files request) other told → ⊥
-accepted_apart request line other told asks also accepted refuses =
-    let here = subst (λ (l : Line). RefusesWith (given_files request) l told) (one_line request other line also.asked asks.asked) refuses in
+accepted_apart : (limits : ChoiceLimits) (request : Request) (line other : Line) (told : List ℕ) → Asks request line → Asks request other
+    → IsAcceptedBy limits (given_files request) line → RefusesWithBy limits (given_files request) other told → ⊥
+accepted_apart limits request line other told asks also accepted refuses =
+    let here = subst (λ (l : Line). RefusesWithBy limits (given_files request) l told) (one_line request other line also.asked asks.asked) refuses in
     let held = accepted here.0 here.1 in
-    denoted_apart line here.0 held.0 told held.1 here.2
+    denoted_apart limits line here.0 held.0 told held.1 here.2
 
 no_line_of : (printed : Printed) (request : Request) (s : Status) (text told : List ℕ) → asked_of request ≡ None → IsStatusOf printed request s text told → s ≡ Usage
 no_line_of printed request Done text told none is = absurd (none_apart request is.line none is.asks.asked)
@@ -76,7 +77,7 @@ missing_of printed request line k WriteFault text told asks first is = absurd is
 missing_of printed request line k NoMemory text told asks first is = absurd is
 
 refused_of : (printed : Printed) (request : Request) (line : Line) (s : Status) (text told : List ℕ) → Asks request line → AreGiven request.files (files_of line)
-    → IsRefused (given_files request) line → IsStatusOf printed request s text told → s ≡ Refused
+    → IsRefusedBy printed.limits (given_files request) line → IsStatusOf printed request s text told → s ≡ Refused
 refused_of printed request line Done text told asks given refused is =
     absurd (not_both printed (given_files request) (asked_of request) is.line line Done text is.asks.asked asks.asked is.answers refused)
 refused_of printed request line Rejected text told asks given refused is =
@@ -88,12 +89,12 @@ refused_of printed request line WriteFault text told asks given refused is = abs
 refused_of printed request line NoMemory text told asks given refused is = absurd is
 
 accepted_of : (printed : Printed) (request : Request) (line : Line) (s : Status) (text told : List ℕ) → Asks request line → AreGiven request.files (files_of line)
-    → IsAccepted (given_files request) line → IsStatusOf printed request s text told → IsEnd s
+    → IsAcceptedBy printed.limits (given_files request) line → IsStatusOf printed request s text told → IsEnd s
 accepted_of printed request line Done text told asks given accepted is = tt
 accepted_of printed request line Rejected text told asks given accepted is = tt
 accepted_of printed request line Usage text told asks given accepted is = absurd (none_apart request line is.no_line asks.asked)
 accepted_of printed request line ReadFault text told asks given accepted is = absurd (given_apart request line is.line is.place asks given is.asks is.first)
-accepted_of printed request line Refused text told asks given accepted is = absurd (accepted_apart request line is.line told asks is.asks accepted is.refuses)
+accepted_of printed request line Refused text told asks given accepted is = absurd (accepted_apart printed.limits request line is.line told asks is.asks accepted is.refuses)
 accepted_of printed request line WriteFault text told asks given accepted is = absurd is
 accepted_of printed request line NoMemory text told asks given accepted is = absurd is
 
@@ -110,7 +111,7 @@ moved printed frame request other s text told requests also status =
     subst (λ (r : Request). IsStatusOf printed r s text told) (one_request frame request other requests.held also.held) status
 
 decided_status : (printed : Printed) (frame : Frame) (request : Request) (s : Status) (text told : List ℕ) → Requests frame request
-    → IsStatusOf printed request s text told → IsDecided frame (Ran s)
+    → IsStatusOf printed request s text told → IsDecidedBy printed frame (Ran s)
 decided_status printed frame request s text told requests status = record {
   malformed = λ none. absurd (none_held frame request none requests.held);
   no_text = λ other is no_text. absurd (no_text (subst (λ (r : Request). IsText r) (one_request frame request other requests.held is) requests.text));
@@ -125,8 +126,8 @@ decided_status printed frame request s text told requests status = record {
       inl (accepted_of printed other line s text told asks given accepted (moved printed frame request other s text told requests also status));
 }
 
-decided_memory : (frame : Frame) → IsDecided frame (Ran NoMemory)
-decided_memory frame = record {
+decided_memory : (printed : Printed) (frame : Frame) → IsDecidedBy printed frame (Ran NoMemory)
+decided_memory printed frame = record {
   malformed = λ none. inr refl;
   no_text = λ request is no_text. inr refl;
   no_line = λ request requests none. inr refl;
@@ -136,17 +137,17 @@ decided_memory frame = record {
   accepted = λ request line requests asks given accepted. inr refl;
 }
 
-decided_run : (printed : Printed) (frame : Frame) (s : Status) (text told : List ℕ) → IsRunOf printed frame s text told → IsDecided frame (Ran s)
+decided_run : (printed : Printed) (frame : Frame) (s : Status) (text told : List ℕ) → IsRunOf printed frame s text told → IsDecidedBy printed frame (Ran s)
 decided_run printed frame Done text told (request, requests, status) = decided_status printed frame request Done text told requests status
 decided_run printed frame Rejected text told (request, requests, status) = decided_status printed frame request Rejected text told requests status
 decided_run printed frame Usage text told (request, requests, status) = decided_status printed frame request Usage text told requests status
 decided_run printed frame ReadFault text told (request, requests, status) = decided_status printed frame request ReadFault text told requests status
 decided_run printed frame Refused text told (request, requests, status) = decided_status printed frame request Refused text told requests status
 decided_run printed frame WriteFault text told (request, requests, status) = absurd status
-decided_run printed frame NoMemory text told memory = decided_memory frame
+decided_run printed frame NoMemory text told memory = decided_memory printed frame
 
-decided_no_text : (frame : Frame) (request : Request) → request_in frame ≡ Some request → (IsText request → ⊥) → IsDecided frame NoText
-decided_no_text frame request is no_text =
+decided_no_text : (printed : Printed) (frame : Frame) (request : Request) → request_in frame ≡ Some request → (IsText request → ⊥) → IsDecidedBy printed frame NoText
+decided_no_text printed frame request is no_text =
     let apart : (other : Request) → Requests frame other → ⊥ = λ other also.
     no_text (subst (λ (r : Request). IsText r) (one_request frame other request also.held is) also.text) in
     record {
@@ -159,8 +160,8 @@ decided_no_text frame request is no_text =
       accepted = λ other line also asks given accepted. absurd (apart other also);
     }
 
-decided_none : (frame : Frame) → request_in frame ≡ None → IsDecided frame Malformed
-decided_none frame none = record {
+decided_none : (printed : Printed) (frame : Frame) → request_in frame ≡ None → IsDecidedBy printed frame Malformed
+decided_none printed frame none = record {
   malformed = λ also. inl refl;
   no_text = λ other is no. absurd (none_held frame other none is);
   no_line = λ other also no_line. absurd (none_held frame other none also.held);
@@ -170,8 +171,8 @@ decided_none frame none = record {
   accepted = λ other line also asks given accepted. absurd (none_held frame other none also.held);
 }
 
-decided_many : (frame : Frame) (request : Request) → Requests frame request → HasTooMany request → IsDecided frame Malformed
-decided_many frame request requests many =
+decided_many : (printed : Printed) (frame : Frame) (request : Request) → Requests frame request → HasTooMany request → IsDecidedBy printed frame Malformed
+decided_many printed frame request requests many =
     let over : (other : Request) → Requests frame other → HasTooMany other = λ other also.
     subst (λ (r : Request). HasTooMany r) (one_request frame request other requests.held also.held) many in
     record {
@@ -185,8 +186,8 @@ decided_many frame request requests many =
     }
 
 -- the frame decides the ending, by the causes of the endings
-pub decided : (printed : Printed) (frame : Frame) (ending : Ending) (text told : List ℕ) → IsEndingOf printed frame ending text told → IsDecided frame ending
+pub decided : (printed : Printed) (frame : Frame) (ending : Ending) (text told : List ℕ) → IsEndingOf printed frame ending text told → IsDecidedBy printed frame ending
 decided printed frame (Ran s) text told run = decided_run printed frame s text told run
-decided printed frame NoText text told (none, silent, quiet) = decided_no_text frame none.request none.held none.no_text
-decided printed frame Malformed text told (inl none, silent, quiet) = decided_none frame none
-decided printed frame Malformed text told (inr (request, requests, many), silent, quiet) = decided_many frame request requests many
+decided printed frame NoText text told (none, silent, quiet) = decided_no_text printed frame none.request none.held none.no_text
+decided printed frame Malformed text told (inl none, silent, quiet) = decided_none printed frame none
+decided printed frame Malformed text told (inr (request, requests, many), silent, quiet) = decided_many printed frame request requests many

@@ -5,9 +5,10 @@ use Rattle.rp_outside.specs.Known.{AreAll}
 use Rattle.rp_command_line.specs.CommandLine.{Line, file_at, files_of}
 use Rattle.rp_command_line.specs.Words.{denoted_line}
 use Rattle.rp_answers.specs.Printed.{Printed}
+use Rattle.rp_answers.specs.declared.choice_limits.ChoiceLimits.{ChoiceLimits}
 use Rattle.rp_answers.specs.declared.status.Status.{Status}
 use Rattle.rp_answers.specs.declared.status.Status.TheVariants.{Done, Rejected, Usage, ReadFault, Refused, WriteFault, NoMemory}
-use Rattle.rp_run.specs.Answers.{AnswersLineBy, AreContents, RefusesWith}
+use Rattle.rp_run.specs.Answers.{AnswersLineBy, AreContents, RefusesWithBy}
 use Rattle.rp_frame.specs.Frames.{Frame, Request, request_in}
 use Rattle.rp_frame.specs.Given.{AreGiven, IsFirstMissing}
 use Rattle.rp_frame.specs.Handed.{Holds, IsText}
@@ -44,8 +45,8 @@ given_answer : (printed : Printed) (files : NamedFiles) (line : Line) (s : Statu
 given_answer printed files line s text answers =
     (answers.0, (answers.1.0, given_contents files line answers.1.0 answers.1.1, answers.1.2, answers.1.3), answers.2)
 
-given_refusal : (files : NamedFiles) (line : Line) (text : List ℕ) → RefusesWith (known_in files) line text → RefusesWith (bytes_under files) line text
-given_refusal files line text refuses = (refuses.0, given_contents files line refuses.0 refuses.1, refuses.2)
+given_refusal : (limits : ChoiceLimits) (files : NamedFiles) (line : Line) (text : List ℕ) → RefusesWithBy limits (known_in files) line text → RefusesWithBy limits (bytes_under files) line text
+given_refusal limits files line text refuses = (refuses.0, given_contents files line refuses.0 refuses.1, refuses.2)
 
 -- the status of a request is that of the run over its files, where each file of its line is given and no more are
 status_of_run : (printed : Printed) (request : Request) (s : Status) (text told : List ℕ)
@@ -72,7 +73,7 @@ status_of_run printed request Refused text told whole run = record {
   asks = record { asked = run.asked; few = (whole run.line run.asked).0 };
   given = (whole run.line run.asked).1;
   silent = run.silent;
-  refuses = given_refusal request.files run.line told run.refuses;
+  refuses = given_refusal printed.limits request.files run.line told run.refuses;
 }
 status_of_run printed request WriteFault text told whole run = absurd run
 status_of_run printed request NoMemory text told whole run = absurd run

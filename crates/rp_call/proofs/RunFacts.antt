@@ -7,7 +7,7 @@ use Rattle.rp_answers.specs.Printed.{Printed}
 use Rattle.rp_answers.specs.declared.status.Status.{Status}
 use Rattle.rp_answers.specs.declared.status.Status.TheVariants.{Done, Rejected, Usage, ReadFault, Refused, WriteFault, NoMemory}
 use Rattle.rp_outside.specs.SureDesk.{SureState}
-use Rattle.rp_run.specs.Answers.{AnswersLineBy, Files, RefusesWith, all_known}
+use Rattle.rp_run.specs.Answers.{AnswersLineBy, Files, RefusesWithBy, all_known}
 use Rattle.rp_run.specs.Calls.{AnswersUsage, IsWrittenBy, TellsWhyBy}
 use Rattle.rp_run.specs.Endings.{IsFaultLineBy}
 use Rattle.rp_run.specs.Gains.{Gains}
@@ -58,7 +58,7 @@ is_run printed files denoted Refused rose asks out err usage written why calm ot
       line = told.1.0;
       asked = told.1.1;
       silent = stayed out (written.silent tt);
-      refuses = subst (λ (t : List ℕ). RefusesWith files told.1.0 t) (sym (gained err told.0 told.2)) told.1.2;
+      refuses = subst (λ (t : List ℕ). RefusesWithBy printed.limits files told.1.0 t) (sym (gained err told.0 told.2)) told.1.2;
     }
 is_run printed files denoted WriteFault rose asks out err usage written why calm other = absurd (none_risen (written.write_counted refl))
 is_run printed files denoted NoMemory rose asks out err usage written why calm other = absurd (other refl)

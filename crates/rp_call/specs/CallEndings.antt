@@ -8,7 +8,7 @@ use Rattle.rp_frame.specs.Rooms.{filled}
 use Rattle.rp_outside.specs.Files.{bytes_under}
 use Rattle.rp_command_line.specs.CommandLine.{Line, file_at, files_of}
 use Rattle.rp_command_line.specs.Words.{denoted_line}
-use Rattle.rp_run.specs.Answers.{AnswersLineBy, Files, IsAccepted, IsRefused, RefusesWith}
+use Rattle.rp_run.specs.Answers.{AnswersLineBy, Files, IsAcceptedBy, IsRefusedBy, RefusesWithBy}
 use Rattle.rp_run.specs.Endings.{IsEnd}
 use Rattle.rp_run.specs.FaultLines.{memory_line, read_line}
 use Rattle.rp_answers.specs.Printed.{Printed, as_stated}
@@ -56,12 +56,12 @@ pub record IsUnread (request : Request) (text told : List ℕ) : Type 0 where
   pub tells : told ≡ read_line (file_at line place)
 
 -- what the files hold is refused with the line that is told
-pub record IsRefusal (request : Request) (text told : List ℕ) : Type 0 where
+pub record IsRefusal (printed : Printed) (request : Request) (text told : List ℕ) : Type 0 where
   pub line : Line
   pub asks : Asks request line
   pub given : AreGiven request.files (files_of line)
   pub silent : text ≡ []
-  pub refuses : RefusesWith (given_files request) line told
+  pub refuses : RefusesWithBy printed.limits (given_files request) line told
 
 -- a status of a request, with what is written and what is told: its cause holds
 abbrev pub IsStatusOf : Printed → Request → Status → List ℕ → List ℕ → Type 0
@@ -69,7 +69,7 @@ IsStatusOf printed request Done text told = IsAnswered printed request Done text
 IsStatusOf printed request Rejected text told = IsAnswered printed request Rejected text told
 IsStatusOf printed request Usage text told = IsUsage printed request text told
 IsStatusOf printed request ReadFault text told = IsUnread request text told
-IsStatusOf printed request Refused text told = IsRefusal request text told
+IsStatusOf printed request Refused text told = IsRefusal printed request text told
 IsStatusOf printed request WriteFault text told = ⊥
 IsStatusOf printed request NoMemory text told = ⊥
 
@@ -144,8 +144,8 @@ HasAnswer (Ran status) = IsEnd status ⊎ (status ≡ NoMemory)
 HasAnswer NoText = ⊥
 HasAnswer Malformed = ⊥
 
--- which ending comes, but for want of memory
-pub record IsDecided (frame : Frame) (ending : Ending) : Type 0 where
+-- which ending comes by an edition of the program, but for want of memory
+pub record IsDecidedBy (printed : Printed) (frame : Frame) (ending : Ending) : Type 0 where
   pub malformed : request_in frame ≡ None → OrNoMemory Malformed ending
   pub no_text : (request : Request) → request_in frame ≡ Some request → ¬ IsText request → OrNoMemory NoText ending
   pub no_line : (request : Request) → Requests frame request → asked_of request ≡ None
@@ -155,9 +155,15 @@ pub record IsDecided (frame : Frame) (ending : Ending) : Type 0 where
   pub missing : (request : Request) (line : Line) (k : ℕ) → Requests frame request → Asks request line
       → IsFirstMissing request.files (files_of line) k → OrNoMemory (Ran ReadFault) ending
   pub refused : (request : Request) (line : Line) → Requests frame request → Asks request line
-      → AreGiven request.files (files_of line) → IsRefused (given_files request) line → OrNoMemory (Ran Refused) ending
+      → AreGiven request.files (files_of line) → IsRefusedBy printed.limits (given_files request) line
+      → OrNoMemory (Ran Refused) ending
   pub accepted : (request : Request) (line : Line) → Requests frame request → Asks request line
-      → AreGiven request.files (files_of line) → IsAccepted (given_files request) line → HasAnswer ending
+      → AreGiven request.files (files_of line) → IsAcceptedBy printed.limits (given_files request) line
+      → HasAnswer ending
+
+-- the same where all is printed as it stands
+abbrev pub IsDecided : Frame → Ending → Type 0
+IsDecided = IsDecidedBy as_stated
 
 -- the number of each ending
 abbrev pub ending_number : Ending → ℕ

@@ -3,7 +3,7 @@
 use Rattle.std.specs.Prelude.{◌≡◌, List, [], ◌∷◌, ℕ, Option, Some, None, codes, unwrap_or}
 use Rattle.rp_outside.specs.Files.{bytes_under}
 use Rattle.rp_command_line.specs.CommandLine.{Line}
-use Rattle.rp_run.specs.Answers.{AnswersLineBy, Files, RefusesWith}
+use Rattle.rp_run.specs.Answers.{AnswersLineBy, Files, RefusesWithBy}
 use Rattle.rp_run.specs.FaultLines.{read_line}
 use Rattle.rp_frame.specs.Frames.{Request}
 use Rattle.rp_call.specs.CallEndings.{IsEnded}
@@ -33,11 +33,11 @@ pub record RunTellsUsage (printed : Printed) (denoted : Option Line) (text told 
   pub tells : told ≡ printed.usage
 
 -- a line is refused
-pub record RunRefuses (files : Files) (denoted : Option Line) (text told : List ℕ) : Type 0 where
+pub record RunRefuses (printed : Printed) (files : Files) (denoted : Option Line) (text told : List ℕ) : Type 0 where
   pub line : Line
   pub asked : denoted ≡ Some line
   pub silent : text ≡ []
-  pub refuses : RefusesWith files line told
+  pub refuses : RefusesWithBy printed.limits files line told
 
 -- what a run wrote and told, by its status; memory did not run out
 abbrev pub IsRun : Printed → Files → Option Line → Status → List ℕ → List ℕ → Type 0
@@ -45,7 +45,7 @@ IsRun printed files denoted Done text told = RunAnswers printed files denoted Do
 IsRun printed files denoted Rejected text told = RunAnswers printed files denoted Rejected text told
 IsRun printed files denoted Usage text told = RunTellsUsage printed denoted text told
 IsRun printed files denoted ReadFault text told = ⊥
-IsRun printed files denoted Refused text told = RunRefuses files denoted text told
+IsRun printed files denoted Refused text told = RunRefuses printed files denoted text told
 IsRun printed files denoted WriteFault text told = ⊥
 IsRun printed files denoted NoMemory text told = ⊥
 

@@ -1,7 +1,8 @@
 //! The call.
 ghost use Rattle.std.specs.Prelude.{IfOk};
 ghost use Rattle.rp_frame.specs.Frames.{frame_of};
-ghost use Rattle.rp_call.specs.CallEndings.{EndsSo, EndsSoBy, IsDecided, IsEndingOf};
+ghost use Rattle.rp_call.specs.CallEndings.{EndsSo, EndsSoBy, IsDecided, IsDecidedBy};
+ghost use Rattle.rp_call.specs.CallEndings.{IsEndingOf};
 
 use crate::asking::{Texts, answer_handed, silent};
 use crate::ending::Ending;
@@ -58,7 +59,8 @@ pub fn answer_edition<P: Edition>(
 ) -> Ending
     ensures ends { EndsSoBy P.printed (frame_of words.now names.now sizes.now bytes.now) result
         output.old output.new output_length.new told.old told.new told_length.new }
-    ensures decided { IsDecided (frame_of words.now names.now sizes.now bytes.now) result }
+    ensures decided { IsDecidedBy P.printed (frame_of words.now names.now sizes.now bytes.now)
+        result }
 {
     match answer_frame::<P>(alloc, words, names, sizes, bytes) {
         Ok(texts) => {

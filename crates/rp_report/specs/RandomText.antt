@@ -1,5 +1,5 @@
 -- The report of evidence on random choices (this program's own format; the share after Kitamura and Stoye 2018).
-use Rattle.std.specs.Prelude.{ℕ, ◌*◌, List, [], ◌++◌, codes, length}
+use Rattle.std.specs.Prelude.{ℕ, ◌*◌, List, [], ◌++◌, Option, Some, None, codes, length}
 use Rattle.std.specs.List.{flat_map}
 use Rattle.std.specs.Fmt.{decimal}
 use Rattle.rp_num.specs.Fraction.{Fraction}
@@ -29,10 +29,15 @@ random_text p (Violated den parts weights) =
     violation_text (codes "random") ordinal_text (share_of_units p den weights) den weights parts
 random_text p (Wide step) = line_of (codes "random withheld " ++ decimal step)
 
+-- how many types are rational, where they are listed
+abbrev pub types_text : Option ℕ → List ℕ
+types_text (Some types) = codes " types " ++ decimal types
+types_text None = codes " types unlisted"
+
 -- the patches, of which so many types are rational
-abbrev pub counts_text : PatchList → ℕ → List ℕ
+abbrev pub counts_text : PatchList → Option ℕ → List ℕ
 counts_text p types = line_of (codes "budgets " ++ decimal p.budgets ++ codes " patches " ++ decimal (length p.patches)
-    ++ codes " types " ++ decimal types ++ codes " total " ++ decimal p.total)
+    ++ types_text types ++ codes " total " ++ decimal p.total)
 
 -- an item on random choices; tables have no place in this report
 abbrev pub random_item_text : PatchList → Item → List ℕ
@@ -46,6 +51,6 @@ random_item_text p (WelfareItem prices of evidence) = []
 random_item_text p (RandomItem total evidence) = random_text p evidence
 
 -- the report of these items on patches of which so many types are rational
-abbrev pub random_report_text : PatchList → ℕ → List Item → List ℕ
+abbrev pub random_report_text : PatchList → Option ℕ → List Item → List ℕ
 random_report_text p types items =
     counts_text p types ++ apportioned_text p.asked ++ flat_map (random_item_text p) items

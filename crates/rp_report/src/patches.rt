@@ -4,6 +4,7 @@ ghost use Rattle.std.specs.List.{flat_map};
 ghost use Rattle.rp_evidence.specs.Kinds.{IsCertificateOf, IsOfKind};
 ghost use Rattle.rp_patch.specs.RandomFailure.{ItemFailsOnPatches};
 ghost use Rattle.rp_report.specs.RandomText.{counts_text, random_item_text, random_report_text};
+ghost use Rattle.rp_report.specs.RandomText.{types_text};
 
 use crate::random::push_random;
 use rp_evidence::{Certificate, Item, Kind};
@@ -12,13 +13,13 @@ use rp_patch::Patches;
 use rp_print::{LongNumber, Number, push_after, push_apportioned};
 use std::alloc::Global;
 
-/// The report of a certificate on random choices: lines on the patches, of which so many types are rational, and then
-/// the lines of each item.
+/// The report of a certificate on random choices: lines on the patches, of which so many types are rational where they
+/// are listed, and then the lines of each item.
 pub fn report_random(
     alloc: Global,
     certificate: &Certificate,
     patches: &Patches,
-    types: u32,
+    types: Option<u32>,
 ) -> Result<Vec<u8>, NoMemory>
     requires kind { IsCertificateOf Kind.Random certificate.now }
     requires nothing_wrong { All (λ item. ItemFailsOnPatches patches.now item (Ok tt))
@@ -38,16 +39,29 @@ fn push_counts(
     alloc: Global,
     out: &mut Vec<u8>,
     patches: &Patches,
-    types: u32,
+    types: Option<u32>,
 ) -> Result<(), NoMemory>
     ensures { OnOk result (out.new.items ≡ out.old.items ++ counts_text patches.now types) }
 {
     push_after::<Number>(alloc, out, b"budgets ", patches.budgets())?;
     push_after::<Number>(alloc, out, b" patches ", patches.count())?;
-    push_after::<Number>(alloc, out, b" types ", types)?;
+    push_types(alloc, out, types)?;
     push_after::<LongNumber>(alloc, out, b" total ", patches.total())?;
     out.push(b'\n')?;
     Ok(())
+}
+
+/// Appends how many types are rational, where they are listed.
+fn push_types(alloc: Global, out: &mut Vec<u8>, types: Option<u32>) -> Result<(), NoMemory>
+    ensures { OnOk result (out.new.items ≡ out.old.items ++ types_text types) }
+{
+    match types {
+        Some(types) => push_after::<Number>(alloc, out, b" types ", types),
+        None => {
+            out.extend_from_slice(b" types unlisted")?;
+            Ok(())
+        }
+    }
 }
 
 /// Appends the lines of each item.

@@ -8,11 +8,12 @@ use Rattle.std.specs.Prelude.{unwrap_or}
 use Rattle.rp_evidence.specs.declared.certificate.Kind.{Kind}
 use Rattle.rp_table.specs.Tables.{Observations}
 use Rattle.rp_text.specs.Denotation.{table_in}
+use Rattle.rp_answers.specs.declared.choice_limits.ChoiceLimits.{ChoiceLimits}
 use Rattle.rp_command_line.specs.CommandLine.{Line, files_of}
 use Rattle.rp_outside.specs.Known.{AreAll}
-use Rattle.rp_run.specs.Answers.{Files, AreContents, HasContents}
+use Rattle.rp_run.specs.Answers.{Files, AreContents, HasContentsBy}
 use Rattle.rp_run.proofs.ChosenInFiles.{of_the_files}
-use Rattle.rp_run.specs.Contents.{Contents, Denotes}
+use Rattle.rp_run.specs.Contents.{Contents, DenotesBy}
 use Rattle.rp_run.specs.InnerLoadings.{MayHaveLevels}
 use Rattle.rp_run.specs.Readings.{AndThen, CertificateIn, Just, NumbersIn, Reading, TakenTable, all_bytes, and_unless_levelled, refuses_levels, unless_levelled}
 use Rattle.rp_limits.specs.declared.run.TheConstants.{MOST_BYTES, MOST_CERTIFICATE_BYTES}
@@ -109,20 +110,20 @@ read_at rose asks files names k name named within is up asked =
     subst (λ (these : List (List ℕ)). (k : ℕ) × (k < length these) × (name ≡ slice_index_or these k []) × rose name × asks (suc k)) (sym named) (k, within, is, subst rose (sym is) up, asked)
 
 -- a line over one file has the input that the file gives, or the cause why the file gives none
-pub one_input : {A : Type 0} (files : Files) (line : Line) (file : List ℕ) (reading : List ℕ → Reading A) (over : A → Contents) (value : A)
-    → files_of line ≡ file ∷ [] → ((bytes : ℕ → List ℕ) (r : Result Contents (List ℕ)) → AndThen (reading (bytes 0)) (λ v. Just (Ok (over v))) r → Denotes line bytes r)
-    → HoldsValue files file reading value → HasContents files line (over value)
-one_input files line file reading over value named denoted (bytes, content, read) =
+pub one_input : {A : Type 0} (limits : ChoiceLimits) (files : Files) (line : Line) (file : List ℕ) (reading : List ℕ → Reading A) (over : A → Contents) (value : A)
+    → files_of line ≡ file ∷ [] → ((bytes : ℕ → List ℕ) (r : Result Contents (List ℕ)) → AndThen (reading (bytes 0)) (λ v. Just (Ok (over v))) r → DenotesBy limits line bytes r)
+    → HoldsValue files file reading value → HasContentsBy limits files line (over value)
+one_input limits files line file reading over value named denoted (bytes, content, read) =
     let denotes = denoted (λ _. bytes) (Ok (over value)) (value, read, refl) in
-    ((λ _. bytes), one_content files line file bytes named content, denotes, of_the_files line (λ _. bytes) (over value) denotes)
+    ((λ _. bytes), one_content files line file bytes named content, denotes, of_the_files limits line (λ _. bytes) (over value) denotes)
 
-pub one_cause : {A : Type 0} (files : Files) (rose : List ℕ → Type 0) (asks : Line → ℕ → Type 0) (line : Line) (file : List ℕ) (reading : List ℕ → Reading A) (over : A → Contents) (why : Cause)
-    → files_of line ≡ file ∷ [] → ((bytes : ℕ → List ℕ) (r : Result Contents (List ℕ)) → AndThen (reading (bytes 0)) (λ v. Just (Ok (over v))) r → Denotes line bytes r)
-    → asks line 1 → IsFileCause files rose file reading why → IsCause files rose asks line why
-one_cause files rose asks line file reading over (Read name) named denoted once (same, up) = read_at rose (asks line) (files_of line) (file ∷ []) 0 name.now named (lit< tt) same up once
-one_cause files rose asks line file reading over (Refused text) named denoted once (bytes, content, refused) =
+pub one_cause : {A : Type 0} (limits : ChoiceLimits) (files : Files) (rose : List ℕ → Type 0) (asks : Line → ℕ → Type 0) (line : Line) (file : List ℕ) (reading : List ℕ → Reading A) (over : A → Contents) (why : Cause)
+    → files_of line ≡ file ∷ [] → ((bytes : ℕ → List ℕ) (r : Result Contents (List ℕ)) → AndThen (reading (bytes 0)) (λ v. Just (Ok (over v))) r → DenotesBy limits line bytes r)
+    → asks line 1 → IsFileCause files rose file reading why → IsCause limits files rose asks line why
+one_cause limits files rose asks line file reading over (Read name) named denoted once (same, up) = read_at rose (asks line) (files_of line) (file ∷ []) 0 name.now named (lit< tt) same up once
+one_cause limits files rose asks line file reading over (Refused text) named denoted once (bytes, content, refused) =
     ((λ _. bytes), one_content files line file bytes named content, denoted (λ _. bytes) (Err text.items) (inl refused))
-one_cause files rose asks line file reading over NoMemory named denoted once none = tt
+one_cause limits files rose asks line file reading over NoMemory named denoted once none = tt
 
 -- the contents of two files
 pub two_bytes : List ℕ → List ℕ → ℕ → List ℕ
@@ -155,18 +156,18 @@ pub moved_value : {A : Type 0} (files later : Files) (file : List ℕ) (reading 
     → later file ≡ files file → HoldsValue later file reading value → HoldsValue files file reading value
 moved_value files later file reading value same (bytes, content, read) = (bytes, (λ known is. content known (same ∙ is)), read)
 
-module _ {A B : Type 0} (files : Files) (rose : List ℕ → Type 0) (asks : Line → ℕ → Type 0) (line : Line) (f s : List ℕ) (reading : List ℕ → Reading A) (after : A → List ℕ → Reading B) (last : A → B → Reading Contents)
+module _ {A B : Type 0} (limits : ChoiceLimits) (files : Files) (rose : List ℕ → Type 0) (asks : Line → ℕ → Type 0) (line : Line) (f s : List ℕ) (reading : List ℕ → Reading A) (after : A → List ℕ → Reading B) (last : A → B → Reading Contents)
     (named : files_of line ≡ f ∷ s ∷ [])
-    (denoted : (bytes : ℕ → List ℕ) (r : Result Contents (List ℕ)) → AndThen (reading (bytes 0)) (λ a. AndThen (after a (bytes 1)) (last a)) r → Denotes line bytes r) where
+    (denoted : (bytes : ℕ → List ℕ) (r : Result Contents (List ℕ)) → AndThen (reading (bytes 0)) (λ a. AndThen (after a (bytes 1)) (last a)) r → DenotesBy limits line bytes r) where
   -- a line over two files has the input that they give
-  pub two_input : (a : A) (b : B) (input : Contents) → HoldsValue files f reading a → HoldsValue files s (after a) b → last a b (Ok input) → HasContents files line input
+  pub two_input : (a : A) (b : B) (input : Contents) → HoldsValue files f reading a → HoldsValue files s (after a) b → last a b (Ok input) → HasContentsBy limits files line input
   unfolding two_bytes
   two_input a b input (first, one, read) (second, two, then_read) made =
       let denotes = denoted (two_bytes first second) (Ok input) (a, read, (b, then_read, made)) in
-      (two_bytes first second, two_contents files line f s first second named one two, denotes, of_the_files line (two_bytes first second) input denotes)
+      (two_bytes first second, two_contents files line f s first second named one two, denotes, of_the_files limits line (two_bytes first second) input denotes)
 
   -- or the cause why the first gives none, whatever the second holds
-  pub first_cause : (why : Cause) → asks line 1 → IsFileCause files rose f reading why → IsCause files rose asks line why
+  pub first_cause : (why : Cause) → asks line 1 → IsFileCause files rose f reading why → IsCause limits files rose asks line why
   unfolding two_bytes
   first_cause (Read name) once (same, up) = read_at rose (asks line) (files_of line) (f ∷ s ∷ []) 0 name.now named (lit< tt) same up once
   first_cause (Refused text) once (first, one, refused) =
@@ -175,7 +176,7 @@ module _ {A B : Type 0} (files : Files) (rose : List ℕ → Type 0) (asks : Lin
   first_cause NoMemory once none = tt
 
   -- or the cause why the second gives none
-  pub second_cause : (a : A) (why : Cause) → asks line 2 → HoldsValue files f reading a → IsFileCause files rose s (after a) why → IsCause files rose asks line why
+  pub second_cause : (a : A) (why : Cause) → asks line 2 → HoldsValue files f reading a → IsFileCause files rose s (after a) why → IsCause limits files rose asks line why
   unfolding two_bytes
   second_cause a (Read name) once held (same, up) = read_at rose (asks line) (files_of line) (f ∷ s ∷ []) 1 name.now named (lit< tt) same up once
   second_cause a (Refused text) once (first, one, read) (second, two, refused) =
@@ -183,7 +184,7 @@ module _ {A B : Type 0} (files : Files) (rose : List ℕ → Type 0) (asks : Lin
   second_cause a NoMemory once held none = tt
 
   -- or the cause why nothing is made of what they give
-  pub last_cause : (a : A) (b : B) (why : Cause) → HoldsValue files f reading a → HoldsValue files s (after a) b → IsReadingCause (last a b) why → IsCause files rose asks line why
+  pub last_cause : (a : A) (b : B) (why : Cause) → HoldsValue files f reading a → HoldsValue files s (after a) b → IsReadingCause (last a b) why → IsCause limits files rose asks line why
   unfolding two_bytes
   last_cause a b (Read name) held also none = absurd none
   last_cause a b (Refused text) (first, one, read) (second, two, then_read) refused =
@@ -209,18 +210,18 @@ three_contents : (files : Files) (line : Line) (f s t first second third : List 
 three_contents files line f s t first second third named one two three =
     subst (λ (names : List (List ℕ)). (k : ℕ) → k < length names → AreAll (files (slice_index_or names k [])) (three_bytes first second third k)) (sym named) (three_of files f s t first second third one two three)
 
-module _ {A B C : Type 0} (files : Files) (rose : List ℕ → Type 0) (asks : Line → ℕ → Type 0) (line : Line) (f s t : List ℕ) (reading : List ℕ → Reading A) (after : A → List ℕ → Reading B) (third : List ℕ → Reading C)
+module _ {A B C : Type 0} (limits : ChoiceLimits) (files : Files) (rose : List ℕ → Type 0) (asks : Line → ℕ → Type 0) (line : Line) (f s t : List ℕ) (reading : List ℕ → Reading A) (after : A → List ℕ → Reading B) (third : List ℕ → Reading C)
     (last : A → B → C → Reading Contents) (named : files_of line ≡ f ∷ s ∷ t ∷ [])
-    (denoted : (bytes : ℕ → List ℕ) (r : Result Contents (List ℕ)) → AndThen (reading (bytes 0)) (λ a. AndThen (after a (bytes 1)) (λ b. AndThen (third (bytes 2)) (last a b))) r → Denotes line bytes r) where
+    (denoted : (bytes : ℕ → List ℕ) (r : Result Contents (List ℕ)) → AndThen (reading (bytes 0)) (λ a. AndThen (after a (bytes 1)) (λ b. AndThen (third (bytes 2)) (last a b))) r → DenotesBy limits line bytes r) where
   -- a line over three files has the input that they give
-  pub three_input : (a : A) (b : B) (c : C) (input : Contents) → HoldsValue files f reading a → HoldsValue files s (after a) b → HoldsValue files t third c → last a b c (Ok input) → HasContents files line input
+  pub three_input : (a : A) (b : B) (c : C) (input : Contents) → HoldsValue files f reading a → HoldsValue files s (after a) b → HoldsValue files t third c → last a b c (Ok input) → HasContentsBy limits files line input
   unfolding three_bytes
   three_input a b c input (x, one, read) (y, two, then_read) (z, three, last_read) made =
       let denotes = denoted (three_bytes x y z) (Ok input) (a, read, (b, then_read, (c, last_read, made))) in
-      (three_bytes x y z, three_contents files line f s t x y z named one two three, denotes, of_the_files line (three_bytes x y z) input denotes)
+      (three_bytes x y z, three_contents files line f s t x y z named one two three, denotes, of_the_files limits line (three_bytes x y z) input denotes)
 
   -- or the cause why the first gives none, and so the others
-  pub three_first : (why : Cause) → asks line 1 → IsFileCause files rose f reading why → IsCause files rose asks line why
+  pub three_first : (why : Cause) → asks line 1 → IsFileCause files rose f reading why → IsCause limits files rose asks line why
   unfolding three_bytes
   three_first (Read name) once (same, up) = read_at rose (asks line) (files_of line) (f ∷ s ∷ t ∷ []) 0 name.now named (lit< tt) same up once
   three_first (Refused text) once (x, one, refused) =
@@ -229,7 +230,7 @@ module _ {A B C : Type 0} (files : Files) (rose : List ℕ → Type 0) (asks : L
       (three_bytes x y z, three_contents files line f s t x y z named one (some_content (files s)) (some_content (files t)), denoted (three_bytes x y z) (Err text.items) (inl refused))
   three_first NoMemory once none = tt
 
-  pub three_second : (a : A) (why : Cause) → asks line 2 → HoldsValue files f reading a → IsFileCause files rose s (after a) why → IsCause files rose asks line why
+  pub three_second : (a : A) (why : Cause) → asks line 2 → HoldsValue files f reading a → IsFileCause files rose s (after a) why → IsCause limits files rose asks line why
   unfolding three_bytes
   three_second a (Read name) once held (same, up) = read_at rose (asks line) (files_of line) (f ∷ s ∷ t ∷ []) 1 name.now named (lit< tt) same up once
   three_second a (Refused text) once (x, one, read) (y, two, refused) =
@@ -237,14 +238,14 @@ module _ {A B C : Type 0} (files : Files) (rose : List ℕ → Type 0) (asks : L
       (three_bytes x y z, three_contents files line f s t x y z named one two (some_content (files t)), denoted (three_bytes x y z) (Err text.items) (inr (a, read, inl refused)))
   three_second a NoMemory once held none = tt
 
-  pub three_third : (a : A) (b : B) (why : Cause) → asks line 3 → HoldsValue files f reading a → HoldsValue files s (after a) b → IsFileCause files rose t third why → IsCause files rose asks line why
+  pub three_third : (a : A) (b : B) (why : Cause) → asks line 3 → HoldsValue files f reading a → HoldsValue files s (after a) b → IsFileCause files rose t third why → IsCause limits files rose asks line why
   unfolding three_bytes
   three_third a b (Read name) once held also (same, up) = read_at rose (asks line) (files_of line) (f ∷ s ∷ t ∷ []) 2 name.now named (lit< tt) same up once
   three_third a b (Refused text) once (x, one, read) (y, two, then_read) (z, three, refused) =
       (three_bytes x y z, three_contents files line f s t x y z named one two three, denoted (three_bytes x y z) (Err text.items) (inr (a, read, inr (b, then_read, inl refused))))
   three_third a b NoMemory once held also none = tt
 
-  pub three_last : (a : A) (b : B) (c : C) (why : Cause) → HoldsValue files f reading a → HoldsValue files s (after a) b → HoldsValue files t third c → IsReadingCause (last a b c) why → IsCause files rose asks line why
+  pub three_last : (a : A) (b : B) (c : C) (why : Cause) → HoldsValue files f reading a → HoldsValue files s (after a) b → HoldsValue files t third c → IsReadingCause (last a b c) why → IsCause limits files rose asks line why
   unfolding three_bytes
   three_last a b c (Read name) held also too none = absurd none
   three_last a b c (Refused text) (x, one, read) (y, two, then_read) (z, three, last_read) refused =
@@ -258,5 +259,5 @@ then_caused made over (Refused line) refused = inl refused
 then_caused made over NoMemory none = tt
 
 -- a line without files has its input
-pub no_files : (files : Files) (line : Line) (input : Contents) → files_of line ≡ [] → ((bytes : ℕ → List ℕ) → Denotes line bytes (Ok input)) → HasContents files line input
-no_files files line input none denoted = ((λ _. []), (λ k within. let empty : k < length {A = List ℕ} [] = rw none at within in let no : ⊥ = omega (arith, empty) in absurd no), denoted (λ _. []), of_the_files line (λ _. []) input (denoted (λ _. [])))
+pub no_files : (limits : ChoiceLimits) (files : Files) (line : Line) (input : Contents) → files_of line ≡ [] → ((bytes : ℕ → List ℕ) → DenotesBy limits line bytes (Ok input)) → HasContentsBy limits files line input
+no_files limits files line input none denoted = ((λ _. []), (λ k within. let empty : k < length {A = List ℕ} [] = rw none at within in let no : ⊥ = omega (arith, empty) in absurd no), denoted (λ _. []), of_the_files limits line (λ _. []) input (denoted (λ _. [])))

@@ -1,5 +1,6 @@
 pub mod AskedLemmas
 pub mod ChosenInFiles
+pub mod DenotedAlike
 pub mod FileLemmas
 pub mod GainsLemmas
 pub mod LineLemmas

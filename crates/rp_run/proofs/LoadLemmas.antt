@@ -15,11 +15,12 @@ use Rattle.rp_command_line.specs.declared.commands.FileSet.{FileSet}
 use Rattle.rp_command_line.specs.declared.commands.FileSet.TheVariants.{Nothing}
 use Rattle.rp_answers.specs.Printed.{Printed}
 use Rattle.rp_answers.specs.declared.answer.Answer.{Answer}
+use Rattle.rp_answers.specs.declared.choice_limits.ChoiceLimits.{ChoiceLimits}
 use Rattle.rp_answers.specs.declared.status.Status.TheVariants.{Done}
 use Rattle.rp_num.specs.declared.NoMemory.{NoMemory as LeftNoMemory}
-use Rattle.rp_run.specs.Answers.{AnswersBy, AnswersLineBy, Files, HasContents, IsTextBy}
+use Rattle.rp_run.specs.Answers.{AnswersBy, AnswersLineBy, Files, HasContentsBy, IsTextBy}
 use Rattle.rp_run.specs.InnerCauses.{HoldsValue, IsCause, IsReadingCause}
-use Rattle.rp_run.specs.Contents.{Contents, ContentsIn, Denotes}
+use Rattle.rp_run.specs.Contents.{Contents, ContentsIn, ContentsInBy, DenotesBy}
 use Rattle.rp_run.specs.Contents as contents
 use Rattle.rp_run.specs.Endings.{Rose}
 use Rattle.rp_run.specs.InnerLoadings.{LoadsFile, LoadsLine, ReadsLine}
@@ -40,11 +41,11 @@ failed_on (Err x) e P h p = subst P (ap Err (sym h.1)) p
 
 -- ---- no file
 
-pub nothing_loads : {D : Type 0} (bytes : D → Files) (faults : D → List ℕ → ℕ) (calls : D → ℕ) (asked : D → Option Reads) (desk : D) (line : Line) → file_set line ≡ Nothing → IsSized line
-    → LoadsLine bytes faults calls asked desk desk line (HasContents (bytes desk) line) (Ok contents.Nothing)
-nothing_loads bytes faults calls asked desk line holds sized = record {
-  held = no_files (bytes desk) line contents.Nothing (none_named line Nothing holds sized refl)
-      (λ known. subst (λ (set : FileSet). ContentsIn (takes_levels line) set line.arguments (λ k. Some (known k)) (Ok contents.Nothing)) (sym holds) refl);
+pub nothing_loads : {D : Type 0} (limits : ChoiceLimits) (bytes : D → Files) (faults : D → List ℕ → ℕ) (calls : D → ℕ) (asked : D → Option Reads) (desk : D) (line : Line) → file_set line ≡ Nothing → IsSized line
+    → LoadsLine limits bytes faults calls asked desk desk line (HasContentsBy limits (bytes desk) line) (Ok contents.Nothing)
+nothing_loads limits bytes faults calls asked desk line holds sized = record {
+  held = no_files limits (bytes desk) line contents.Nothing (none_named line Nothing holds sized refl)
+      (λ known. subst (λ (set : FileSet). ContentsInBy limits (takes_levels line) set line.arguments (λ k. Some (known k)) (Ok contents.Nothing)) (sym holds) refl);
   caused = tt;
   reads = record {
     in_turn = unread (bytes desk) (calls desk) line;
@@ -56,29 +57,29 @@ nothing_loads bytes faults calls asked desk line holds sized = record {
 
 -- ---- one file
 
-pub record IsOverOne {A : Type 0} (line : Line) (set : FileSet) (limit : ℕ) (reading : List ℕ → Reading A) (over : A → Contents) : Type 0 where
+pub record IsOverOne {A : Type 0} (limits : ChoiceLimits) (line : Line) (set : FileSet) (limit : ℕ) (reading : List ℕ → Reading A) (over : A → Contents) : Type 0 where
   pub holds : file_set line ≡ set
   pub named : files_of line ≡ file_at line 0 ∷ []
   pub calls : (files : Files) → calls_of_files files line ≡ calls_through limit (files (file_at line 0)) ∷ []
-  pub denoted : (bytes : ℕ → List ℕ) (r : Result Contents (List ℕ)) → AndThen (reading (bytes 0)) (λ a. Just (Ok (over a))) r → Denotes line bytes r
+  pub denoted : (bytes : ℕ → List ℕ) (r : Result Contents (List ℕ)) → AndThen (reading (bytes 0)) (λ a. Just (Ok (over a))) r → DenotesBy limits line bytes r
 
-pub over_one : {A : Type 0} (line : Line) (set : FileSet) (limit : ℕ) (reading : List ℕ → Reading A) (over : A → Contents)
+pub over_one : {A : Type 0} (limits : ChoiceLimits) (line : Line) (set : FileSet) (limit : ℕ) (reading : List ℕ → Reading A) (over : A → Contents)
     → file_set line ≡ set → IsSized line → length (file_names set) ≡ 1
     → ((files : Files) (f : List ℕ) → calls_of_each files (files_in set) (f ∷ []) ≡ calls_through limit (files f) ∷ [])
     → ((bytes : ℕ → List ℕ) (r : Result Contents (List ℕ)) → AndThen (reading (bytes 0)) (λ a. Just (Ok (over a))) r
-    → ContentsIn (takes_levels line) set line.arguments (λ k. Some (bytes k)) r)
-    → IsOverOne line set limit reading over
-over_one line set limit reading over holds sized count each denotes =
+    → ContentsInBy limits (takes_levels line) set line.arguments (λ k. Some (bytes k)) r)
+    → IsOverOne limits line set limit reading over
+over_one limits line set limit reading over holds sized count each denotes =
     let named = one_named line set holds sized count in
     record {
       holds = holds;
       named = named;
       calls = λ files. calls_are line set holds sized files (file_at line 0 ∷ []) named ∙ each files (file_at line 0);
-      denoted = λ bytes r read. subst (λ s. ContentsIn (takes_levels line) s line.arguments (λ k. Some (bytes k)) r) (sym holds) (denotes bytes r read);
+      denoted = λ bytes r read. subst (λ s. ContentsInBy limits (takes_levels line) s line.arguments (λ k. Some (bytes k)) r) (sym holds) (denotes bytes r read);
     }
 
-module _ {D A V : Type 0} {bytes : D → Files} {faults : D → List ℕ → ℕ} {calls : D → ℕ} {asked : D → Option Reads} {line : Line} {set : FileSet} {limit : ℕ} {reading : List ℕ → Reading A} {over : A → Contents}
-    (one : IsOverOne line set limit reading over) (old new : D) (holds : V → Type 0) where
+module _ {D A V : Type 0} {bytes : D → Files} {faults : D → List ℕ → ℕ} {calls : D → ℕ} {asked : D → Option Reads} {limits : ChoiceLimits} {line : Line} {set : FileSet} {limit : ℕ} {reading : List ℕ → Reading A} {over : A → Contents}
+    (one : IsOverOne limits line set limit reading over) (old new : D) (holds : V → Type 0) where
   reads_one : (r : Result A Cause) → LoadsFile bytes faults calls asked old new limit (file_at line 0) reading r → ReadsLine bytes faults calls asked old new line
   reads_one r loads = record {
     in_turn = first_turn (bytes old) line _ _ (one.calls (bytes old)) _ _ 0 (ap length one.named) loads.read_through;
@@ -88,69 +89,69 @@ module _ {D A V : Type 0} {bytes : D → Files} {faults : D → List ℕ → ℕ
   }
 
   pub one_none : (r : Result V Cause) (why : Cause) → IsErr r × IsErrAnd r (λ x. x ≡ why) → LoadsFile bytes faults calls asked old new limit (file_at line 0) reading (Err why)
-      → LoadsLine bytes faults calls asked old new line holds r
+      → LoadsLine limits bytes faults calls asked old new line holds r
   one_none r why passed loads =
       let files = bytes old in
-      failed_on r why (LoadsLine bytes faults calls asked old new line holds) passed (record {
+      failed_on r why (LoadsLine limits bytes faults calls asked old new line holds) passed (record {
         held = tt;
-        caused = one_cause files (Rose (faults old) (faults new)) (AsksForFirst files (calls old) (calls new)) line (file_at line 0) reading over why one.named one.denoted
+        caused = one_cause limits files (Rose (faults old) (faults new)) (AsksForFirst files (calls old) (calls new)) line (file_at line 0) reading over why one.named one.denoted
             (asks_one files line _ _ (one.calls files) _ _ loads.read_through) loads.loaded;
         reads = reads_one (Err why) loads;
       })
 
-  pub one_held : (value : V) (a : A) → LoadsFile bytes faults calls asked old new limit (file_at line 0) reading (Ok a) → (HasContents (bytes old) line (over a) → holds value)
-      → LoadsLine bytes faults calls asked old new line holds (Ok value)
+  pub one_held : (value : V) (a : A) → LoadsFile bytes faults calls asked old new limit (file_at line 0) reading (Ok a) → (HasContentsBy limits (bytes old) line (over a) → holds value)
+      → LoadsLine limits bytes faults calls asked old new line holds (Ok value)
   one_held value a loads has = record {
-    held = has (one_input (bytes old) line (file_at line 0) reading over a one.named one.denoted loads.loaded);
+    held = has (one_input limits (bytes old) line (file_at line 0) reading over a one.named one.denoted loads.loaded);
     caused = tt;
     reads = reads_one (Ok a) loads;
   }
 
-pub one_loads : {D A : Type 0} {bytes : D → Files} {faults : D → List ℕ → ℕ} {calls : D → ℕ} {asked : D → Option Reads} {line : Line} {set : FileSet} {limit : ℕ} {reading : List ℕ → Reading A} {over : A → Contents}
-    (one : IsOverOne line set limit reading over) (old new : D) (holds : A → Type 0) (r : Result A Cause) → LoadsFile bytes faults calls asked old new limit (file_at line 0) reading r
-    → ((a : A) → HasContents (bytes old) line (over a) → holds a) → LoadsLine bytes faults calls asked old new line holds r
+pub one_loads : {D A : Type 0} {bytes : D → Files} {faults : D → List ℕ → ℕ} {calls : D → ℕ} {asked : D → Option Reads} {limits : ChoiceLimits} {line : Line} {set : FileSet} {limit : ℕ} {reading : List ℕ → Reading A} {over : A → Contents}
+    (one : IsOverOne limits line set limit reading over) (old new : D) (holds : A → Type 0) (r : Result A Cause) → LoadsFile bytes faults calls asked old new limit (file_at line 0) reading r
+    → ((a : A) → HasContentsBy limits (bytes old) line (over a) → holds a) → LoadsLine limits bytes faults calls asked old new line holds r
 one_loads one old new holds (Ok a) loads has = one_held one old new holds a a loads (has a)
 one_loads one old new holds (Err why) loads has = one_none one old new holds (Err why) why (refl, refl) loads
 
 -- ---- two files
 
-pub record IsOverTwo {A B : Type 0} (line : Line) (set : FileSet) (limit then_limit : ℕ) (read : List ℕ → Result A (List ℕ)) (after : A → List ℕ → Reading B) (last : A → B → Reading Contents) : Type 0 where
+pub record IsOverTwo {A B : Type 0} (limits : ChoiceLimits) (line : Line) (set : FileSet) (limit then_limit : ℕ) (read : List ℕ → Result A (List ℕ)) (after : A → List ℕ → Reading B) (last : A → B → Reading Contents) : Type 0 where
   pub holds : file_set line ≡ set
   pub named : files_of line ≡ file_at line 0 ∷ file_at line 1 ∷ []
   pub calls : (files : Files) → calls_of_files files line ≡ calls_through limit (files (file_at line 0)) ∷ calls_through then_limit (files (file_at line 1)) ∷ []
-  pub denoted : (bytes : ℕ → List ℕ) (r : Result Contents (List ℕ)) → AndThen (Just (read (bytes 0))) (λ a. AndThen (after a (bytes 1)) (last a)) r → Denotes line bytes r
+  pub denoted : (bytes : ℕ → List ℕ) (r : Result Contents (List ℕ)) → AndThen (Just (read (bytes 0))) (λ a. AndThen (after a (bytes 1)) (last a)) r → DenotesBy limits line bytes r
   pub refused : (files : Files) → AreRefused files line 1 → IsKnownRefused files (file_at line 0) (λ b. Just (read b))
 
-pub over_two : {A B : Type 0} (line : Line) (set : FileSet) (limit then_limit : ℕ) (read : List ℕ → Result A (List ℕ)) (after : A → List ℕ → Reading B) (last : A → B → Reading Contents)
+pub over_two : {A B : Type 0} (limits : ChoiceLimits) (line : Line) (set : FileSet) (limit then_limit : ℕ) (read : List ℕ → Result A (List ℕ)) (after : A → List ℕ → Reading B) (last stated : A → B → Reading Contents)
     → file_set line ≡ set → IsSized line → length (file_names set) ≡ 2
     → ((files : Files) (f s : List ℕ) → calls_of_each files (files_in set) (f ∷ s ∷ []) ≡ calls_through limit (files f) ∷ calls_through then_limit (files s) ∷ [])
     → ((bytes : ℕ → List ℕ) (r : Result Contents (List ℕ)) → AndThen (Just (read (bytes 0))) (λ a. AndThen (after a (bytes 1)) (last a)) r
-    → ContentsIn (takes_levels line) set line.arguments (λ k. Some (bytes k)) r)
+    → ContentsInBy limits (takes_levels line) set line.arguments (λ k. Some (bytes k)) r)
     → ((files : Files) (text : List ℕ) → ContentsIn (takes_levels line) set line.arguments (first_known files line 1) (Err text)
-    → AndThen (WhereKnown (λ b. Just (read b)) (files (file_at line 0))) (λ a. AndThen (WhereKnown (after a) None) (last a)) (Err text))
-    → IsOverTwo line set limit then_limit read after last
-over_two line set limit then_limit read after last holds sized count each denotes refuses =
+    → AndThen (WhereKnown (λ b. Just (read b)) (files (file_at line 0))) (λ a. AndThen (WhereKnown (after a) None) (stated a)) (Err text))
+    → IsOverTwo limits line set limit then_limit read after last
+over_two limits line set limit then_limit read after last stated holds sized count each denotes refuses =
     let named = two_named line set holds sized count in
     record {
       holds = holds;
       named = named;
       calls = λ files. calls_are line set holds sized files (file_at line 0 ∷ file_at line 1 ∷ []) named ∙ each files (file_at line 0) (file_at line 1);
-      denoted = λ bytes r read. subst (λ s. ContentsIn (takes_levels line) s line.arguments (λ k. Some (bytes k)) r) (sym holds) (denotes bytes r read);
-      refused = λ files (text, is). known_refused files (file_at line 0) (λ b. Just (read b)) (λ a. AndThen (WhereKnown (after a) None) (last a)) text
-          (λ a more. unknown (after a) (last a) text more)
+      denoted = λ bytes r read. subst (λ s. ContentsInBy limits (takes_levels line) s line.arguments (λ k. Some (bytes k)) r) (sym holds) (denotes bytes r read);
+      refused = λ files (text, is). known_refused files (file_at line 0) (λ b. Just (read b)) (λ a. AndThen (WhereKnown (after a) None) (stated a)) text
+          (λ a more. unknown (after a) (stated a) text more)
           (refuses files text (subst (λ s. ContentsIn (takes_levels line) s line.arguments (first_known files line 1) (Err text)) holds is));
     }
 
-module _ {D A B V : Type 0} {bytes : D → Files} {faults : D → List ℕ → ℕ} {calls : D → ℕ} {asked : D → Option Reads} {line : Line} {set : FileSet} {limit then_limit : ℕ} {read : List ℕ → Result A (List ℕ)}
-    {after : A → List ℕ → Reading B} {last : A → B → Reading Contents} (two : IsOverTwo line set limit then_limit read after last) (holds : V → Type 0) where
+module _ {D A B V : Type 0} {bytes : D → Files} {faults : D → List ℕ → ℕ} {calls : D → ℕ} {asked : D → Option Reads} {limits : ChoiceLimits} {line : Line} {set : FileSet} {limit then_limit : ℕ} {read : List ℕ → Result A (List ℕ)}
+    {after : A → List ℕ → Reading B} {last : A → B → Reading Contents} (two : IsOverTwo limits line set limit then_limit read after last) (holds : V → Type 0) where
   -- the first gives none
   pub two_first_none : (old new : D) (r : Result V Cause) (why : Cause) → IsErr r × IsErrAnd r (λ x. x ≡ why)
-      → LoadsFile bytes faults calls asked old new limit (file_at line 0) (λ b. Just (read b)) (Err why) → LoadsLine bytes faults calls asked old new line holds r
+      → LoadsFile bytes faults calls asked old new limit (file_at line 0) (λ b. Just (read b)) (Err why) → LoadsLine limits bytes faults calls asked old new line holds r
   two_first_none old new r why passed loads =
       let files = bytes old in
-      failed_on r why (LoadsLine bytes faults calls asked old new line holds) passed (record {
+      failed_on r why (LoadsLine limits bytes faults calls asked old new line holds) passed (record {
         held = tt;
-        caused = first_cause files (Rose (faults old) (faults new)) (AsksForFirst files (calls old) (calls new)) line (file_at line 0) (file_at line 1) (λ b. Just (read b)) after last two.named two.denoted why
+        caused = first_cause limits files (Rose (faults old) (faults new)) (AsksForFirst files (calls old) (calls new)) line (file_at line 0) (file_at line 1) (λ b. Just (read b)) after last two.named two.denoted why
             (asks_one files line _ _ (two.calls files) _ _ loads.read_through) loads.loaded;
         reads = record {
           in_turn = first_turn files line _ _ (two.calls files) _ _ 1 (ap length two.named) loads.read_through;
@@ -177,15 +178,15 @@ module _ {D A B V : Type 0} {bytes : D → Files} {faults : D → List ℕ → �
 
     -- the second gives none
     pub two_second_none : (r : Result V Cause) (why : Cause) → IsErr r × IsErrAnd r (λ x. x ≡ why) → LoadsFile bytes faults calls asked mid new then_limit (file_at line 1) (after a) (Err why)
-        → LoadsLine bytes faults calls asked old new line holds r
+        → LoadsLine limits bytes faults calls asked old new line holds r
     two_second_none r why passed then_loads =
         let files = bytes old in
         let s = file_at line 1 in
         let moved = moved_cause files (bytes mid) (Rose (faults old) (faults new)) (Rose (faults mid) (faults new)) s (after a) why (loads.bytes_stay s)
         (λ up. rises_later (faults old s) (faults mid s) (faults new s) (loads.never_falls s) up) then_loads.loaded in
-        failed_on r why (LoadsLine bytes faults calls asked old new line holds) passed (record {
+        failed_on r why (LoadsLine limits bytes faults calls asked old new line holds) passed (record {
           held = tt;
-          caused = second_cause files (Rose (faults old) (faults new)) (AsksForFirst files (calls old) (calls new)) line (file_at line 0) s (λ b. Just (read b)) after last two.named two.denoted a why
+          caused = second_cause limits files (Rose (faults old) (faults new)) (AsksForFirst files (calls old) (calls new)) line (file_at line 0) s (λ b. Just (read b)) after last two.named two.denoted a why
               (asks_two files line _ _ _ (two.calls files) _ _ _ loads.read_through (also_read then_loads.read_through)) loads.loaded moved;
           reads = reads_two (Err why) then_loads;
         })
@@ -194,11 +195,11 @@ module _ {D A B V : Type 0} {bytes : D → Files} {faults : D → List ℕ → �
       moved_two : HoldsValue (bytes old) (file_at line 1) (after a) b
       moved_two = moved_value (bytes old) (bytes mid) (file_at line 1) (after a) b (loads.bytes_stay (file_at line 1)) then_loads.loaded
 
-      pub two_held : (value : V) (input : Contents) → last a b (Ok input) → (HasContents (bytes old) line input → holds value) → LoadsLine bytes faults calls asked old new line holds (Ok value)
+      pub two_held : (value : V) (input : Contents) → last a b (Ok input) → (HasContentsBy limits (bytes old) line input → holds value) → LoadsLine limits bytes faults calls asked old new line holds (Ok value)
       two_held value input made has =
           let files = bytes old in
           record {
-            held = has (two_input files (Rose (faults old) (faults new)) (AsksForFirst files (calls old) (calls new)) line (file_at line 0) (file_at line 1) (λ b. Just (read b)) after last two.named two.denoted a b input
+            held = has (two_input limits files (Rose (faults old) (faults new)) (AsksForFirst files (calls old) (calls new)) line (file_at line 0) (file_at line 1) (λ b. Just (read b)) after last two.named two.denoted a b input
                 loads.loaded moved_two made);
             caused = tt;
             reads = reads_two (Ok b) then_loads;
@@ -207,69 +208,69 @@ module _ {D A B V : Type 0} {bytes : D → Files} {faults : D → List ℕ → �
       -- what is made of what both give, or why nothing is
       pub two_made : {M : Type 0} (r : Result V Cause) (reading : Reading M) (pair : V → M) (over : M → Contents) → ((made : M) → reading (Ok made) → last a b (Ok (over made)))
           → ((why : Cause) → IsReadingCause reading why → IsReadingCause (last a b) why) → IfOk r (λ v. reading (Ok (pair v))) → IfErr r (IsReadingCause reading)
-          → ((v : V) → HasContents (bytes old) line (over (pair v)) → holds v) → LoadsLine bytes faults calls asked old new line holds r
+          → ((v : V) → HasContentsBy limits (bytes old) line (over (pair v)) → holds v) → LoadsLine limits bytes faults calls asked old new line holds r
       two_made (Ok value) reading pair over takes refuses made none has = two_held value (over (pair value)) (takes (pair value) made) (has value)
       two_made (Err why) reading pair over takes refuses none refused has =
           let files = bytes old in
           record {
             held = tt;
-            caused = last_cause files (Rose (faults old) (faults new)) (AsksForFirst files (calls old) (calls new)) line (file_at line 0) (file_at line 1) (λ b. Just (read b)) after last two.named two.denoted a b why
+            caused = last_cause limits files (Rose (faults old) (faults new)) (AsksForFirst files (calls old) (calls new)) line (file_at line 0) (file_at line 1) (λ b. Just (read b)) after last two.named two.denoted a b why
                 loads.loaded moved_two (refuses why refused);
             reads = reads_two (Ok b) then_loads;
           }
 
 -- ---- three files, of which the third is read beside none
 
-pub record IsOverThree {A B C : Type 0} (line : Line) (set : FileSet) (limit then_limit last_limit : ℕ) (read : List ℕ → Result A (List ℕ)) (after : A → List ℕ → Result B (List ℕ))
+pub record IsOverThree {A B C : Type 0} (limits : ChoiceLimits) (line : Line) (set : FileSet) (limit then_limit last_limit : ℕ) (read : List ℕ → Result A (List ℕ)) (after : A → List ℕ → Result B (List ℕ))
     (third : List ℕ → Reading C) (last : A → B → C → Reading Contents) : Type 0 where
   pub holds : file_set line ≡ set
   pub named : files_of line ≡ file_at line 0 ∷ file_at line 1 ∷ file_at line 2 ∷ []
   pub calls : (files : Files) → calls_of_files files line
       ≡ calls_through limit (files (file_at line 0)) ∷ calls_through then_limit (files (file_at line 1)) ∷ calls_through last_limit (files (file_at line 2)) ∷ []
-  pub denoted : (bytes : ℕ → List ℕ) (r : Result Contents (List ℕ)) → AndThen (Just (read (bytes 0))) (λ a. AndThen (Just (after a (bytes 1))) (λ b. AndThen (third (bytes 2)) (last a b))) r → Denotes line bytes r
+  pub denoted : (bytes : ℕ → List ℕ) (r : Result Contents (List ℕ)) → AndThen (Just (read (bytes 0))) (λ a. AndThen (Just (after a (bytes 1))) (λ b. AndThen (third (bytes 2)) (last a b))) r → DenotesBy limits line bytes r
   pub refused : (files : Files) → AreRefused files line 1 → IsKnownRefused files (file_at line 0) (λ b. Just (read b))
   pub then_refused : (files : Files) → AreRefused files line 2 → IsKnownRefused files (file_at line 0) (λ b. Just (read b))
       ⊎ ((a : A) × IsKnownTaken files (file_at line 0) (λ b. Just (read b)) a × IsKnownRefused files (file_at line 1) (λ b. Just (after a b)))
 
-pub over_three : {A B C : Type 0} (line : Line) (set : FileSet) (limit then_limit last_limit : ℕ) (read : List ℕ → Result A (List ℕ)) (after : A → List ℕ → Result B (List ℕ))
-    (third : List ℕ → Reading C) (last : A → B → C → Reading Contents)
+pub over_three : {A B C : Type 0} (limits : ChoiceLimits) (line : Line) (set : FileSet) (limit then_limit last_limit : ℕ) (read : List ℕ → Result A (List ℕ)) (after : A → List ℕ → Result B (List ℕ))
+    (third : List ℕ → Reading C) (last stated : A → B → C → Reading Contents)
     → file_set line ≡ set → IsSized line → length (file_names set) ≡ 3
     → ((files : Files) (f s t : List ℕ) → calls_of_each files (files_in set) (f ∷ s ∷ t ∷ []) ≡ calls_through limit (files f) ∷ calls_through then_limit (files s) ∷ calls_through last_limit (files t) ∷ [])
     → ((bytes : ℕ → List ℕ) (r : Result Contents (List ℕ)) → AndThen (Just (read (bytes 0))) (λ a. AndThen (Just (after a (bytes 1))) (λ b. AndThen (third (bytes 2)) (last a b))) r
-    → ContentsIn (takes_levels line) set line.arguments (λ k. Some (bytes k)) r)
+    → ContentsInBy limits (takes_levels line) set line.arguments (λ k. Some (bytes k)) r)
     → ((files : Files) (text : List ℕ) → ContentsIn (takes_levels line) set line.arguments (first_known files line 1) (Err text)
-    → AndThen (WhereKnown (λ b. Just (read b)) (files (file_at line 0))) (λ a. AndThen (WhereKnown (λ b. Just (after a b)) None) (λ b. AndThen (WhereKnown third None) (last a b))) (Err text))
+    → AndThen (WhereKnown (λ b. Just (read b)) (files (file_at line 0))) (λ a. AndThen (WhereKnown (λ b. Just (after a b)) None) (λ b. AndThen (WhereKnown third None) (stated a b))) (Err text))
     → ((files : Files) (text : List ℕ) → ContentsIn (takes_levels line) set line.arguments (first_known files line 2) (Err text)
-    → AndThen (WhereKnown (λ b. Just (read b)) (files (file_at line 0))) (λ a. AndThen (WhereKnown (λ b. Just (after a b)) (files (file_at line 1))) (λ b. AndThen (WhereKnown third None) (last a b))) (Err text))
-    → IsOverThree line set limit then_limit last_limit read after third last
-over_three line set limit then_limit last_limit read after third last holds sized count each denotes refuses then_refuses =
+    → AndThen (WhereKnown (λ b. Just (read b)) (files (file_at line 0))) (λ a. AndThen (WhereKnown (λ b. Just (after a b)) (files (file_at line 1))) (λ b. AndThen (WhereKnown third None) (stated a b))) (Err text))
+    → IsOverThree limits line set limit then_limit last_limit read after third last
+over_three limits line set limit then_limit last_limit read after third last stated holds sized count each denotes refuses then_refuses =
     let named = three_named line set holds sized count in
     record {
       holds = holds;
       named = named;
       calls = λ files. calls_are line set holds sized files (file_at line 0 ∷ file_at line 1 ∷ file_at line 2 ∷ []) named ∙ each files (file_at line 0) (file_at line 1) (file_at line 2);
-      denoted = λ bytes r read. subst (λ s. ContentsIn (takes_levels line) s line.arguments (λ k. Some (bytes k)) r) (sym holds) (denotes bytes r read);
-      refused = λ files (text, is). known_refused files (file_at line 0) (λ b. Just (read b)) (λ a. AndThen (WhereKnown (λ b. Just (after a b)) None) (λ b. AndThen (WhereKnown third None) (last a b))) text
-          (λ a more. unknown (λ b. Just (after a b)) (λ b. AndThen (WhereKnown third None) (last a b)) text more)
+      denoted = λ bytes r read. subst (λ s. ContentsInBy limits (takes_levels line) s line.arguments (λ k. Some (bytes k)) r) (sym holds) (denotes bytes r read);
+      refused = λ files (text, is). known_refused files (file_at line 0) (λ b. Just (read b)) (λ a. AndThen (WhereKnown (λ b. Just (after a b)) None) (λ b. AndThen (WhereKnown third None) (stated a b))) text
+          (λ a more. unknown (λ b. Just (after a b)) (λ b. AndThen (WhereKnown third None) (stated a b)) text more)
           (refuses files text (subst (λ s. ContentsIn (takes_levels line) s line.arguments (first_known files line 1) (Err text)) holds is));
       then_refused = λ files (text, is).
-          elim (known_before files (file_at line 0) (λ b. Just (read b)) (λ a. AndThen (WhereKnown (λ b. Just (after a b)) (files (file_at line 1))) (λ b. AndThen (WhereKnown third None) (last a b))) text
+          elim (known_before files (file_at line 0) (λ b. Just (read b)) (λ a. AndThen (WhereKnown (λ b. Just (after a b)) (files (file_at line 1))) (λ b. AndThen (WhereKnown third None) (stated a b))) text
           (then_refuses files text (subst (λ s. ContentsIn (takes_levels line) s line.arguments (first_known files line 2) (Err text)) holds is))) [
             | inl one ↦ inl one
-            | inr (a, taken, more) ↦ inr (a, taken, known_refused files (file_at line 1) (λ b. Just (after a b)) (λ b. AndThen (WhereKnown third None) (last a b)) text (λ b still. unknown third (last a b) text still) more)
+            | inr (a, taken, more) ↦ inr (a, taken, known_refused files (file_at line 1) (λ b. Just (after a b)) (λ b. AndThen (WhereKnown third None) (stated a b)) text (λ b still. unknown third (stated a b) text still) more)
           ];
     }
 
-module _ {D A B C V : Type 0} {bytes : D → Files} {faults : D → List ℕ → ℕ} {calls : D → ℕ} {asked : D → Option Reads} {line : Line} {set : FileSet} {limit then_limit last_limit : ℕ} {read : List ℕ → Result A (List ℕ)}
-    {after : A → List ℕ → Result B (List ℕ)} {third : List ℕ → Reading C} {last : A → B → C → Reading Contents} (three : IsOverThree line set limit then_limit last_limit read after third last) (holds : V → Type 0) where
+module _ {D A B C V : Type 0} {bytes : D → Files} {faults : D → List ℕ → ℕ} {calls : D → ℕ} {asked : D → Option Reads} {limits : ChoiceLimits} {line : Line} {set : FileSet} {limit then_limit last_limit : ℕ} {read : List ℕ → Result A (List ℕ)}
+    {after : A → List ℕ → Result B (List ℕ)} {third : List ℕ → Reading C} {last : A → B → C → Reading Contents} (three : IsOverThree limits line set limit then_limit last_limit read after third last) (holds : V → Type 0) where
   -- the first gives none
   pub three_first_none : (old new : D) (r : Result V Cause) (why : Cause) → IsErr r × IsErrAnd r (λ x. x ≡ why)
-      → LoadsFile bytes faults calls asked old new limit (file_at line 0) (λ b. Just (read b)) (Err why) → LoadsLine bytes faults calls asked old new line holds r
+      → LoadsFile bytes faults calls asked old new limit (file_at line 0) (λ b. Just (read b)) (Err why) → LoadsLine limits bytes faults calls asked old new line holds r
   three_first_none old new r why passed loads =
       let files = bytes old in
-      failed_on r why (LoadsLine bytes faults calls asked old new line holds) passed (record {
+      failed_on r why (LoadsLine limits bytes faults calls asked old new line holds) passed (record {
         held = tt;
-        caused = three_first files (Rose (faults old) (faults new)) (AsksForFirst files (calls old) (calls new)) line (file_at line 0) (file_at line 1) (file_at line 2) (λ b. Just (read b)) (λ a b. Just (after a b)) third last
+        caused = three_first limits files (Rose (faults old) (faults new)) (AsksForFirst files (calls old) (calls new)) line (file_at line 0) (file_at line 1) (file_at line 2) (λ b. Just (read b)) (λ a b. Just (after a b)) third last
             three.named three.denoted why (asks_one files line _ _ (three.calls files) _ _ loads.read_through) loads.loaded;
         reads = record {
           in_turn = first_turn files line _ _ (three.calls files) _ _ 2 (ap length three.named) loads.read_through;
@@ -281,7 +282,7 @@ module _ {D A B C V : Type 0} {bytes : D → Files} {faults : D → List ℕ →
 
   -- the second gives none
   pub three_second_none : (old mid new : D) (a : A) → LoadsFile bytes faults calls asked old mid limit (file_at line 0) (λ b. Just (read b)) (Ok a) → (r : Result V Cause) (why : Cause) → IsErr r × IsErrAnd r (λ x. x ≡ why)
-      → LoadsFile bytes faults calls asked mid new then_limit (file_at line 1) (λ b. Just (after a b)) (Err why) → LoadsLine bytes faults calls asked old new line holds r
+      → LoadsFile bytes faults calls asked mid new then_limit (file_at line 1) (λ b. Just (after a b)) (Err why) → LoadsLine limits bytes faults calls asked old new line holds r
   three_second_none old mid new a loads r why passed then_loads =
       let files = bytes old in
       let s = file_at line 1 in
@@ -289,9 +290,9 @@ module _ {D A B C V : Type 0} {bytes : D → Files} {faults : D → List ℕ →
       (λ up. rises_later (faults old s) (faults mid s) (faults new s) (loads.never_falls s) up) then_loads.loaded in
       let also = calls_later files (bytes mid) s then_limit (calls mid) (calls new) (loads.bytes_stay s) then_loads.read_through in
       let taken = λ (is : AreRefused files line 1). taken_apart files (file_at line 0) read a loads.loaded (three.refused files is) in
-      failed_on r why (LoadsLine bytes faults calls asked old new line holds) passed (record {
+      failed_on r why (LoadsLine limits bytes faults calls asked old new line holds) passed (record {
         held = tt;
-        caused = three_second files (Rose (faults old) (faults new)) (AsksForFirst files (calls old) (calls new)) line (file_at line 0) s (file_at line 2) (λ b. Just (read b)) (λ a b. Just (after a b)) third last
+        caused = three_second limits files (Rose (faults old) (faults new)) (AsksForFirst files (calls old) (calls new)) line (file_at line 0) s (file_at line 2) (λ b. Just (read b)) (λ a b. Just (after a b)) third last
             three.named three.denoted a why (asks_two files line _ _ _ (three.calls files) _ _ _ loads.read_through also) loads.loaded moved;
         reads = record {
           in_turn = second_turn files line _ _ _ (three.calls files) _ _ _ 1 (ap length three.named) loads.read_through also taken;
@@ -337,15 +338,15 @@ module _ {D A B C V : Type 0} {bytes : D → Files} {faults : D → List ℕ →
 
     -- the third gives none
     pub three_third_none : (r : Result V Cause) (why : Cause) → IsErr r × IsErrAnd r (λ x. x ≡ why) → LoadsFile bytes faults calls asked then_mid new last_limit (file_at line 2) third (Err why)
-        → LoadsLine bytes faults calls asked old new line holds r
+        → LoadsLine limits bytes faults calls asked old new line holds r
     three_third_none r why passed last_loads =
         let files = bytes old in
         let t = file_at line 2 in
         let carried = moved_cause files (bytes then_mid) (Rose (faults old) (faults new)) (Rose (faults then_mid) (faults new)) t third why (both_stay t)
         (λ up. rises_later (faults old t) (faults then_mid t) (faults new t) (neither_falls t) up) last_loads.loaded in
-        failed_on r why (LoadsLine bytes faults calls asked old new line holds) passed (record {
+        failed_on r why (LoadsLine limits bytes faults calls asked old new line holds) passed (record {
           held = tt;
-          caused = three_third files (Rose (faults old) (faults new)) (AsksForFirst files (calls old) (calls new)) line (file_at line 0) (file_at line 1) t (λ b. Just (read b)) (λ a b. Just (after a b)) third last
+          caused = three_third limits files (Rose (faults old) (faults new)) (AsksForFirst files (calls old) (calls new)) line (file_at line 0) (file_at line 1) t (λ b. Just (read b)) (λ a b. Just (after a b)) third last
               three.named three.denoted a b why (asks_three files line _ _ _ _ (three.calls files) _ _ _ _ loads.read_through also_three (too_three last_loads.read_through)) loads.loaded moved_three carried;
           reads = reads_three (Err why) last_loads;
         })
@@ -355,21 +356,21 @@ module _ {D A B C V : Type 0} {bytes : D → Files} {faults : D → List ℕ →
       carried_three = moved_value (bytes old) (bytes then_mid) (file_at line 2) third c (both_stay (file_at line 2)) last_loads.loaded
 
       -- nothing is made of what all give
-      pub three_last_none : (r : Result V Cause) (why : Cause) → IsErr r × IsErrAnd r (λ x. x ≡ why) → IsReadingCause (last a b c) why → LoadsLine bytes faults calls asked old new line holds r
+      pub three_last_none : (r : Result V Cause) (why : Cause) → IsErr r × IsErrAnd r (λ x. x ≡ why) → IsReadingCause (last a b c) why → LoadsLine limits bytes faults calls asked old new line holds r
       three_last_none r why passed refused =
           let files = bytes old in
-          failed_on r why (LoadsLine bytes faults calls asked old new line holds) passed (record {
+          failed_on r why (LoadsLine limits bytes faults calls asked old new line holds) passed (record {
             held = tt;
-            caused = three_last files (Rose (faults old) (faults new)) (AsksForFirst files (calls old) (calls new)) line (file_at line 0) (file_at line 1) (file_at line 2) (λ b. Just (read b)) (λ a b. Just (after a b)) third last
+            caused = three_last limits files (Rose (faults old) (faults new)) (AsksForFirst files (calls old) (calls new)) line (file_at line 0) (file_at line 1) (file_at line 2) (λ b. Just (read b)) (λ a b. Just (after a b)) third last
                 three.named three.denoted a b c why loads.loaded moved_three carried_three refused;
             reads = reads_three (Ok c) last_loads;
           })
 
-      pub three_held : (value : V) (input : Contents) → last a b c (Ok input) → (HasContents (bytes old) line input → holds value) → LoadsLine bytes faults calls asked old new line holds (Ok value)
+      pub three_held : (value : V) (input : Contents) → last a b c (Ok input) → (HasContentsBy limits (bytes old) line input → holds value) → LoadsLine limits bytes faults calls asked old new line holds (Ok value)
       three_held value input made has =
           let files = bytes old in
           record {
-            held = has (three_input files (Rose (faults old) (faults new)) (AsksForFirst files (calls old) (calls new)) line (file_at line 0) (file_at line 1) (file_at line 2) (λ b. Just (read b)) (λ a b. Just (after a b)) third last
+            held = has (three_input limits files (Rose (faults old) (faults new)) (AsksForFirst files (calls old) (calls new)) line (file_at line 0) (file_at line 1) (file_at line 2) (λ b. Just (read b)) (λ a b. Just (after a b)) third last
                 three.named three.denoted a b c input loads.loaded moved_three carried_three made);
             caused = tt;
             reads = reads_three (Ok c) last_loads;
@@ -384,9 +385,9 @@ done_text printed CheckRandom arguments (contents.ChoicesAndCertificate patches 
 done_text printed _ arguments _ text is = (refl, is)
 
 module _ {D A : Type 0} {bytes : D → Files} {faults : D → List ℕ → ℕ} {calls : D → ℕ} {asked : D → Option Reads} {old new : D} {holds : A → Type 0} {input : A} (line : Line) (printed : Printed) where
-  answered : (command : Command) (held : Contents) (result : Result Answer Cause) → line.command ≡ command → LoadsLine bytes faults calls asked old new line holds (Ok input) → HasContents (bytes old) line held
+  answered : (command : Command) (held : Contents) (result : Result Answer Cause) → line.command ≡ command → LoadsLine printed.limits bytes faults calls asked old new line holds (Ok input) → HasContentsBy printed.limits (bytes old) line held
       → MatchResult result (λ answer. AnswersBy printed command line.arguments held answer.status answer.text.items) (λ why. why ≡ NoMemory)
-      → LoadsLine bytes faults calls asked old new line (λ answer. AnswersLineBy printed (bytes old) line answer.status answer.text.items) result
+      → LoadsLine printed.limits bytes faults calls asked old new line (λ answer. AnswersLineBy printed (bytes old) line answer.status answer.text.items) result
   answered command held (Ok answer) is loads has answers = record {
     held = (held, has, subst (λ (c : Command). AnswersBy printed c line.arguments held answer.status answer.text.items) (sym is) answers);
     caused = tt;
@@ -394,15 +395,15 @@ module _ {D A : Type 0} {bytes : D → Files} {faults : D → List ℕ → ℕ} 
   }
   answered command held (Err why) is loads has none = record {
     held = tt;
-    caused = subst (IsCause (bytes old) (Rose (faults old) (faults new)) (AsksForFirst (bytes old) (calls old) (calls new)) line) (sym none) tt;
+    caused = subst (IsCause printed.limits (bytes old) (Rose (faults old) (faults new)) (AsksForFirst (bytes old) (calls old) (calls new)) line) (sym none) tt;
     reads = loads.reads;
   }
 
   -- by a text
   pub text_answered : (command : Command) (held : Contents) (text : Result (Vec ℕ Global) LeftNoMemory) (result : Result Answer Cause) → line.command ≡ command
-      → LoadsLine bytes faults calls asked old new line holds (Ok input) → HasContents (bytes old) line held → IfOk text (λ t. IsTextBy printed command line.arguments held t.items)
+      → LoadsLine printed.limits bytes faults calls asked old new line holds (Ok input) → HasContentsBy printed.limits (bytes old) line held → IfOk text (λ t. IsTextBy printed command line.arguments held t.items)
       → MatchResult result (λ answer. (answer.status ≡ Done) × (text ≡ Ok answer.text)) (λ why. why ≡ NoMemory)
-      → LoadsLine bytes faults calls asked old new line (λ answer. AnswersLineBy printed (bytes old) line answer.status answer.text.items) result
+      → LoadsLine printed.limits bytes faults calls asked old new line (λ answer. AnswersLineBy printed (bytes old) line answer.status answer.text.items) result
   text_answered command held text (Ok answer) is loads has says (done, made) =
       let text_is = subst (λ t. IfOk t (λ v. IsTextBy printed command line.arguments held v.items)) made says in
       answered command held (Ok answer) is loads has
@@ -411,9 +412,9 @@ module _ {D A : Type 0} {bytes : D → Files} {faults : D → List ℕ → ℕ} 
 
   -- by an answer that is made whole
   pub whole_answered : (command : Command) (held : Contents) (whole : Result Answer LeftNoMemory) (result : Result Answer Cause) → line.command ≡ command
-      → LoadsLine bytes faults calls asked old new line holds (Ok input) → HasContents (bytes old) line held → IfOk whole (λ answer. AnswersBy printed command line.arguments held answer.status answer.text.items)
+      → LoadsLine printed.limits bytes faults calls asked old new line holds (Ok input) → HasContentsBy printed.limits (bytes old) line held → IfOk whole (λ answer. AnswersBy printed command line.arguments held answer.status answer.text.items)
       → MatchResult result (λ answer. whole ≡ Ok answer) (λ why. why ≡ NoMemory)
-      → LoadsLine bytes faults calls asked old new line (λ answer. AnswersLineBy printed (bytes old) line answer.status answer.text.items) result
+      → LoadsLine printed.limits bytes faults calls asked old new line (λ answer. AnswersLineBy printed (bytes old) line answer.status answer.text.items) result
   whole_answered command held whole (Ok answer) is loads has says made =
       answered command held (Ok answer) is loads has (subst (λ t. IfOk t (λ (a : Answer). AnswersBy printed command line.arguments held a.status a.text.items)) made says)
   whole_answered command held whole (Err why) is loads has says none = answered command held (Err why) is loads has none

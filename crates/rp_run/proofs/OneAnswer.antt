@@ -1,5 +1,5 @@
 -- The content of a line's files denotes one input or one refusal at most.
-use Rattle.std.proofs.Common.{◌≡◌, ◌⊎◌, ℕ, Bool, true, false, Option, Some, List, map, Result, Ok, Err, [], ◌∷◌, inl, inr, refl, sym, subst, ap, ◌∙◌, arith}
+use Rattle.std.proofs.Common.{◌≡◌, ◌⊎◌, ℕ, Bool, true, false, Option, Some, None, List, map, Result, Ok, Err, [], ◌∷◌, inl, inr, refl, sym, subst, ap, ◌∙◌, arith}
 use Rattle.std.proofs.lemmas.List.{length-map}
 use Rattle.rp_cost.specs.Denotation.{asked_beside, tech_in}
 use Rattle.rp_evidence.specs.declared.certificate.Certificate.{Certificate}
@@ -20,15 +20,19 @@ use Rattle.rp_run.proofs.PatchesApart.{AreAlike, patches_apart, types_apart}
 use Rattle.rp_run.specs.FaultLines.{file_line, patch_line, types_line}
 use Rattle.rp_run.specs.FaultTexts.{json_fault_text}
 use Rattle.rp_types.specs.Listed.{types_of}
+use Rattle.rp_types.specs.declared.fault.TypesFault.{TypesFault}
 use Rattle.rp_types.specs.declared.types.Rational.{Rational}
+use Rattle.rp_answers.specs.ChoiceLimits.{most_patches}
+use Rattle.rp_answers.specs.declared.choice_limits.ChoiceLimits.{ChoiceLimits}
+use Rattle.rp_answers.specs.declared.choice_limits.ChoiceLimits.TheVariants.{Listed, Unlisted}
 use Rattle.rp_command_line.specs.CommandLine.{Arguments, Line, file, file_set, takes_levels}
 use Rattle.rp_command_line.specs.declared.commands.FileSet.{FileSet}
 use Rattle.rp_command_line.specs.declared.commands.FileSet.TheVariants as files
-use Rattle.rp_run.specs.ChoiceContents.{PatchesOf, TypedPatchesOf, TypesOf}
+use Rattle.rp_run.specs.ChoiceContents.{HasNoList, PatchesOf, TypedPatchesOf, TypesOf}
 use Rattle.rp_menu.specs.Denotation.{menus_in}
 use Rattle.rp_run.specs.MenuContents.{MenusIn, MenusOf, UnitsOf, menu_fault_text}
 use Rattle.rp_run.proofs.MenusOnce.{units_one}
-use Rattle.rp_run.specs.Contents.{Contents, ContentsIn, Denotes}
+use Rattle.rp_run.specs.Contents.{Contents, ContentsInBy, DenotesBy}
 use Rattle.rp_run.specs.Contents as contents
 use Rattle.rp_run.specs.Readings.{AndThen, CertificateIn, Just, Reading, held_in, numbers_in, taken_table}
 
@@ -124,63 +128,80 @@ module _
     (types_once : (p : PatchList) (one other : List (List ℕ))
     → AreRationalTypes p one → AreRationalTypes p other → one ≡ other)
   where
-    patches_one : (input : RandomInput) (per : Option ℕ) → GivesOne (PatchesOf input per)
-    patches_one input per (Ok p) (Ok q) (are, valid) (also, too) = ap Ok (patches_once input per p q are valid also too)
-    patches_one input per (Ok p) (Err line) (are, valid) (fault, other, why, is) = absurd (patches_apart input per p fault are valid other why)
-    patches_one input per (Err line) (Ok p) (fault, other, why, is) (are, valid) = absurd (patches_apart input per p fault are valid other why)
-    patches_one input per (Err line) (Err text) (f, real, why, is) (g, neither, too, also) =
-        ap Err (is ∙ ap patch_line (patch_fault_once input per f g real neither why too) ∙ sym also)
+    patches_one : (most : ℕ) (input : RandomInput) (per : Option ℕ) → GivesOne (PatchesOf most input per)
+    patches_one most input per (Ok p) (Ok q) (are, valid, few) (also, too, fit) = ap Ok (patches_once input per p q are valid also too)
+    patches_one most input per (Ok p) (Err line) (are, valid, few) (fault, other, why, is) = absurd (patches_apart input per most p fault are valid few other why)
+    patches_one most input per (Err line) (Ok p) (fault, other, why, is) (are, valid, few) = absurd (patches_apart input per most p fault are valid few other why)
+    patches_one most input per (Err line) (Err text) (f, real, why, is) (g, neither, too, also) =
+        ap Err (is ∙ ap patch_line (patch_fault_once input per most f g real neither why too) ∙ sym also)
 
     types_of_one : (one other : List Rational) → types_of one ≡ types_of other → one ≡ other
     types_of_one one other same = sym (made_again one) ∙ ap (map as_type) same ∙ made_again other
 
-    types_one : (p : PatchList) → GivesOne (TypesOf p)
-    types_one p (Ok types) (Ok others) (all, few, within) (also, too, inside) = ap Ok (types_of_one types others (types_once p (types_of types) (types_of others) all also))
-    types_one p (Ok types) (Err line) (all, few, within) (fault, other, why, is) = absurd (types_apart p p (types_of types) fault (alike_itself p) all (rw (length-map types (λ (type : Rational). type.patches)) few) within other why)
-    types_one p (Err line) (Ok types) (fault, other, why, is) (all, few, within) = absurd (types_apart p p (types_of types) fault (alike_itself p) all (rw (length-map types (λ (type : Rational). type.patches)) few) within other why)
-    types_one p (Err line) (Err text) (f, real, why, is) (g, neither, too, also) =
-        ap Err (is ∙ ap types_line (types_fault_once p f g real neither why too) ∙ sym also)
+    -- listed types, and a reason why they are not
+    listed_apart : (limits : ChoiceLimits) (p : PatchList) (types : List Rational) (fault : TypesFault) → TypesOf limits p (Ok (Some types)) → HasNoList p fault → ⊥
+    listed_apart limits p types fault (all, few, within, count) (other, why) =
+        types_apart p p (types_of types) fault (alike_itself p) all (rw (length-map types (λ (type : Rational). type.patches)) few) within other why
 
-    typed_one : (budgets : BudgetList) (choices : ChoiceList) (per : Option ℕ) → GivesOne (TypedPatchesOf budgets choices per)
-    typed_one budgets choices per =
-        then_one (PatchesOf (random_input_of budgets choices) per) (λ p. AndThen (TypesOf p) (λ types. Just (Ok (p, types))))
-        (patches_one (random_input_of budgets choices) per) (λ p. over_one (TypesOf p) (λ types. (p, types)) (types_one p))
+    some_or_none : (limits : ChoiceLimits) (p : PatchList) (types : List Rational) → TypesOf limits p (Ok (Some types)) → TypesOf limits p (Ok None) → ⊥
+    some_or_none limits p types listed (unlisted, inl many) = omega (arith, listed.3, many)
+    some_or_none limits p types listed (unlisted, inr (fault, none)) = listed_apart limits p types fault listed none
 
-    denoted_one : (takes : Bool) (set : FileSet) (arguments : Arguments) (bytes : ℕ → List ℕ) → GivesOne (ContentsIn takes set arguments (λ k. Some (bytes k)))
-    denoted_one takes files.Nothing arguments bytes = just_one (Ok contents.Nothing)
-    denoted_one takes files.Table arguments bytes = one_file (taken_table takes (file arguments 0) (bytes 0)) contents.Table
-    denoted_one takes files.TableAndCertificate arguments bytes =
+    either_limits : (limits : ChoiceLimits) → limits ≡ Listed → limits ≡ Unlisted → ⊥
+    either_limits limits is also = cc
+
+    types_one : (limits : ChoiceLimits) (p : PatchList) → GivesOne (TypesOf limits p)
+    types_one limits p (Ok (Some types)) (Ok (Some others)) listed also = ap (λ (made : List Rational). Ok (Some made)) (types_of_one types others (types_once p (types_of types) (types_of others) listed.0 also.0))
+    types_one limits p (Ok (Some types)) (Ok None) listed none = absurd (some_or_none limits p types listed none)
+    types_one limits p (Ok (Some types)) (Err line) listed (is, (fault, none, told)) = absurd (listed_apart limits p types fault listed none)
+    types_one limits p (Ok None) (Ok (Some types)) none listed = absurd (some_or_none limits p types listed none)
+    types_one limits p (Ok None) (Ok None) none also = refl
+    types_one limits p (Ok None) (Err line) none refused = absurd (either_limits limits refused.0 none.0)
+    types_one limits p (Err line) (Ok (Some types)) (is, (fault, none, told)) listed = absurd (listed_apart limits p types fault listed none)
+    types_one limits p (Err line) (Ok None) refused none = absurd (either_limits limits refused.0 none.0)
+    types_one limits p (Err line) (Err text) (is, (f, (real, why), told)) (also, (g, (neither, too), says)) =
+        ap Err (told ∙ ap types_line (types_fault_once p f g real neither why too) ∙ sym says)
+
+    typed_one : (limits : ChoiceLimits) (budgets : BudgetList) (choices : ChoiceList) (per : Option ℕ) → GivesOne (TypedPatchesOf limits budgets choices per)
+    typed_one limits budgets choices per =
+        then_one (PatchesOf (most_patches limits) (random_input_of budgets choices) per) (λ p. AndThen (TypesOf limits p) (λ types. Just (Ok (p, types))))
+        (patches_one (most_patches limits) (random_input_of budgets choices) per) (λ p. over_one (TypesOf limits p) (λ types. (p, types)) (types_one limits p))
+
+    denoted_one : (limits : ChoiceLimits) (takes : Bool) (set : FileSet) (arguments : Arguments) (bytes : ℕ → List ℕ) → GivesOne (ContentsInBy limits takes set arguments (λ k. Some (bytes k)))
+    denoted_one limits takes files.Nothing arguments bytes = just_one (Ok contents.Nothing)
+    denoted_one limits takes files.Table arguments bytes = one_file (taken_table takes (file arguments 0) (bytes 0)) contents.Table
+    denoted_one limits takes files.TableAndCertificate arguments bytes =
         let first = taken_table takes (file arguments 0) (bytes 0) in
         let second = CertificateIn (file arguments 1) TableKind (bytes 1) in
         then_one (Just first) (λ t. AndThen second (λ c. Just (Ok (contents.TableAndCertificate t c)))) (just_one first)
         (λ t. over_one second (contents.TableAndCertificate t) (certificate_one (file arguments 1) TableKind (bytes 1)))
-    denoted_one takes files.TableAndPricesWithExpenditure arguments bytes =
+    denoted_one limits takes files.TableAndPricesWithExpenditure arguments bytes =
         two_files (taken_table takes (file arguments 0) (bytes 0)) (λ t. numbers_in (file arguments 1) (prices_beside true t) (bytes 1)) contents.TableAndPricesWithExpenditure
-    denoted_one takes files.TableAndPrices arguments bytes =
+    denoted_one limits takes files.TableAndPrices arguments bytes =
         two_files (taken_table takes (file arguments 0) (bytes 0)) (λ t. numbers_in (file arguments 1) (prices_beside false t) (bytes 1)) contents.TableAndPrices
-    denoted_one takes files.TableAndBundles arguments bytes =
+    denoted_one limits takes files.TableAndBundles arguments bytes =
         two_files (taken_table takes (file arguments 0) (bytes 0)) (λ t. numbers_in (file arguments 1) (bundles_beside t) (bytes 1)) contents.TableAndBundles
-    denoted_one takes files.Choices arguments bytes =
+    denoted_one limits takes files.Choices arguments bytes =
         let first = numbers_in (file arguments 0) budgets_in (bytes 0) in
         let second = λ (b : BudgetList). numbers_in (file arguments 1) (choices_on b) (bytes 1) in
-        let made = λ (b : BudgetList) (c : ChoiceList). AndThen (TypedPatchesOf b c arguments.per) (λ made. Just (Ok (contents.Choices made.0 made.1))) in
+        let made = λ (b : BudgetList) (c : ChoiceList). AndThen (TypedPatchesOf limits b c arguments.per) (λ made. Just (Ok (contents.Choices made.0 made.1))) in
         then_one (Just first) (λ b. AndThen (Just (second b)) (made b)) (just_one first)
         (λ b. then_one (Just (second b)) (made b) (just_one (second b))
-        (λ c. over_one (TypedPatchesOf b c arguments.per) (λ made. contents.Choices made.0 made.1) (typed_one b c arguments.per)))
-    denoted_one takes files.ChoicesAndCertificate arguments bytes =
+        (λ c. over_one (TypedPatchesOf limits b c arguments.per) (λ made. contents.Choices made.0 made.1) (typed_one limits b c arguments.per)))
+    denoted_one limits takes files.ChoicesAndCertificate arguments bytes =
         let first = numbers_in (file arguments 0) budgets_in (bytes 0) in
         let second = λ (b : BudgetList). numbers_in (file arguments 1) (choices_on b) (bytes 1) in
         let third = CertificateIn (file arguments 2) RandomKind (bytes 2) in
         let made = λ (b : BudgetList) (c : ChoiceList) (read : Certificate).
-        AndThen (TypedPatchesOf b c arguments.per) (λ made. Just (Ok (contents.ChoicesAndCertificate made.0 made.1 read))) in
+        AndThen (TypedPatchesOf limits b c arguments.per) (λ made. Just (Ok (contents.ChoicesAndCertificate made.0 made.1 read))) in
         then_one (Just first) (λ b. AndThen (Just (second b)) (λ c. AndThen third (made b c))) (just_one first)
         (λ b. then_one (Just (second b)) (λ c. AndThen third (made b c)) (just_one (second b))
         (λ c. then_one third (made b c) (certificate_one (file arguments 2) RandomKind (bytes 2))
-        (λ read. over_one (TypedPatchesOf b c arguments.per) (λ made. contents.ChoicesAndCertificate made.0 made.1 read) (typed_one b c arguments.per))))
-    denoted_one takes files.Menus arguments bytes =
+        (λ read. over_one (TypedPatchesOf limits b c arguments.per) (λ made. contents.ChoicesAndCertificate made.0 made.1 read) (typed_one limits b c arguments.per))))
+    denoted_one limits takes files.Menus arguments bytes =
         over_one (MenusIn arguments.per (file arguments 0) (bytes 0)) (λ made. contents.Menus made.0 made.1) (menus_one arguments.per (file arguments 0) (bytes 0))
-    denoted_one takes files.TechnologyAndAsked arguments bytes =
+    denoted_one limits takes files.TechnologyAndAsked arguments bytes =
         two_files (numbers_in (file arguments 0) tech_in (bytes 0)) (λ t. numbers_in (file arguments 1) (asked_beside t) (bytes 1)) contents.TechnologyAndAsked
 
-    pub denotes_one : (line : Line) (bytes : ℕ → List ℕ) → GivesOne (Denotes line bytes)
-    denotes_one line bytes = denoted_one (takes_levels line) (file_set line) line.arguments bytes
+    pub denotes_one : (limits : ChoiceLimits) (line : Line) (bytes : ℕ → List ℕ) → GivesOne (DenotesBy limits line bytes)
+    denotes_one limits line bytes = denoted_one limits (takes_levels line) (file_set line) line.arguments bytes

@@ -13,8 +13,7 @@ use Rattle.rp_json.proofs.TopLemmas.{no_other_version, same_top}
 use Rattle.rp_patch.specs.Apportionment.{GroupedCounts, IsCommonMultiple, PassesTotalAt}
 use Rattle.rp_patch.specs.Choices.{RandomInput}
 use Rattle.rp_patch.specs.Patches.{PatchList}
-use Rattle.rp_patch.specs.Units.{PassesPatchesAt, SaysWhy, all_chosen, chosen_counts}
-use Rattle.rp_limits.specs.declared.patch.TheConstants.{PATCHES}
+use Rattle.rp_patch.specs.Units.{PassesPatchesAt, SaysWhyWithin, all_chosen, chosen_counts}
 use Rattle.rp_patch.specs.declared.fault.PatchFault.{PatchFault}
 use Rattle.rp_patch.specs.declared.fault.PatchFault.TheVariants as patch_fault
 use Rattle.rp_types.specs.Listed.{SaysWhy as SaysWhyNoTypes}
@@ -94,8 +93,8 @@ json_fault_once kind bytes (BadShape item) (BadShape other) real also (d, its, i
 
 -- ---- choices
 
-passed_once : (input : RandomInput) (j k : ℕ) → PassesPatchesAt input j → PassesPatchesAt input k → j < k → ⊥
-passed_once input j k (below, few, many) (also_below, also_few, also_many) less =
+passed_once : (input : RandomInput) (most j k : ℕ) → PassesPatchesAt input most j → PassesPatchesAt input most k → j < k → ⊥
+passed_once input most j k (below, few, many) (also_below, also_few, also_many) less =
     let rise = chosen_within input (j + 1) k (omega (arith, less)) in
     omega (arith, rise, many, also_few)
 
@@ -105,20 +104,20 @@ passes_once g j k (below, fits, (m, (multiple, least), many)) (also_below, (n, (
     let first : IsCommonMultiple g (j + 1) n = (also_multiple.0, λ i l. also_multiple.1 i (omega (arith, less, l))) in
     omega (arith, least n first, many, few)
 
-patches_units_apart : (input : RandomInput) (j : ℕ) → PassesPatchesAt input j → length (all_chosen input) ≤ PATCHES → ⊥
-patches_units_apart input j (below, few, many) all =
+patches_units_apart : (input : RandomInput) (most j : ℕ) → PassesPatchesAt input most j → length (all_chosen input) ≤ most → ⊥
+patches_units_apart input most j (below, few, many) all =
     let rise = chosen_within input (j + 1) input.budgets (omega (arith, below)) in
     omega (arith, rise, many, all)
 
-pub patch_fault_once : (input : RandomInput) (asked : Option ℕ) (f g : PatchFault) → f ≢ patch_fault.NoMemory → g ≢ patch_fault.NoMemory → SaysWhy input asked f → SaysWhy input asked g → f ≡ g
-patch_fault_once input asked patch_fault.NoMemory g real also is too = absurd (real refl)
-patch_fault_once input asked (patch_fault.TooManyPatches j) patch_fault.NoMemory real also is too = absurd (also refl)
-patch_fault_once input asked (patch_fault.TooManyPatches j) (patch_fault.TooManyPatches k) real also is too =
-    ap patch_fault.TooManyPatches (neither_less j k (passed_once input j k is too) (passed_once input k j too is))
-patch_fault_once input asked (patch_fault.TooManyPatches j) (patch_fault.NeedUnit k) real also is too = absurd (patches_units_apart input j is too.0)
-patch_fault_once input asked (patch_fault.NeedUnit j) patch_fault.NoMemory real also is too = absurd (also refl)
-patch_fault_once input asked (patch_fault.NeedUnit j) (patch_fault.TooManyPatches k) real also is too = absurd (patches_units_apart input k too is.0)
-patch_fault_once input asked (patch_fault.NeedUnit j) (patch_fault.NeedUnit k) real also (few, none, is) (also_few, also_none, too) =
+pub patch_fault_once : (input : RandomInput) (asked : Option ℕ) (most : ℕ) (f g : PatchFault) → f ≢ patch_fault.NoMemory → g ≢ patch_fault.NoMemory → SaysWhyWithin input asked most f → SaysWhyWithin input asked most g → f ≡ g
+patch_fault_once input asked most patch_fault.NoMemory g real also is too = absurd (real refl)
+patch_fault_once input asked most (patch_fault.TooManyPatches j) patch_fault.NoMemory real also is too = absurd (also refl)
+patch_fault_once input asked most (patch_fault.TooManyPatches j) (patch_fault.TooManyPatches k) real also is too =
+    ap patch_fault.TooManyPatches (neither_less j k (passed_once input most j k is too) (passed_once input most k j too is))
+patch_fault_once input asked most (patch_fault.TooManyPatches j) (patch_fault.NeedUnit k) real also is too = absurd (patches_units_apart input most j is too.0)
+patch_fault_once input asked most (patch_fault.NeedUnit j) patch_fault.NoMemory real also is too = absurd (also refl)
+patch_fault_once input asked most (patch_fault.NeedUnit j) (patch_fault.TooManyPatches k) real also is too = absurd (patches_units_apart input most k too is.0)
+patch_fault_once input asked most (patch_fault.NeedUnit j) (patch_fault.NeedUnit k) real also (few, none, is) (also_few, also_none, too) =
     ap patch_fault.NeedUnit (neither_less j k (passes_once (chosen_counts input) j k is too) (passes_once (chosen_counts input) k j too is))
 
 -- ---- patches

@@ -8,7 +8,7 @@ use Rattle.rp_patch.specs.Apportionment.{GroupedCounts, HasExactShares, HasShare
 use Rattle.rp_patch.specs.Choices.{RandomInput}
 use Rattle.rp_patch.specs.Patches.{IsPatchList, PatchList, budget_at, sign_at, units_at}
 use Rattle.rp_patch.specs.Types.{AreRationalTypes, IsRationalType, IsType, combinations, patches_on}
-use Rattle.rp_patch.specs.Units.{ArePatchesOf, SaysWhy, chosen_as, chosen_below, chosen_counts, tally_on}
+use Rattle.rp_patch.specs.Units.{ArePatchesOf, SaysWhyWithin, chosen_as, chosen_below, chosen_counts, tally_on}
 use Rattle.rp_patch.specs.declared.fault.PatchFault.{PatchFault}
 use Rattle.rp_patch.specs.declared.fault.PatchFault.TheVariants as patch_fault
 use Rattle.rp_types.specs.Listed.{SaysWhy as SaysWhyNoTypes}
@@ -44,14 +44,14 @@ passes_apart g None all units j shares few none (below, fits, (m, (multiple, lea
     omega (arith, least all first, many, few)
 passes_apart g (Some unit) all units j shares few none passes = cc
 
-pub patches_apart : (input : RandomInput) (asked : Option ℕ) (p : PatchList) (fault : PatchFault) → ArePatchesOf input asked p → IsPatchList p → fault ≢ patch_fault.NoMemory
-    → SaysWhy input asked fault → ⊥
-patches_apart input asked p (patch_fault.TooManyPatches j) are valid other (below, few, many) =
+pub patches_apart : (input : RandomInput) (asked : Option ℕ) (most : ℕ) (p : PatchList) (fault : PatchFault) → ArePatchesOf input asked p → IsPatchList p → length p.patches ≤ most → fault ≢ patch_fault.NoMemory
+    → SaysWhyWithin input asked most fault → ⊥
+patches_apart input asked most p (patch_fault.TooManyPatches j) are valid few_patches other (below, few, many) =
     let rise = chosen_within input (j + 1) input.budgets (omega (arith, below)) in
-    omega (arith, rise, many, are.count, valid.few_patches)
-patches_apart input asked p (patch_fault.NeedUnit j) are valid other (few, none, passes) =
+    omega (arith, rise, many, are.count, few_patches)
+patches_apart input asked most p (patch_fault.NeedUnit j) are valid few_patches other (few, none, passes) =
     passes_apart (chosen_counts input) asked p.total (units_at p) j are.units valid.few_units none passes
-patches_apart input asked p patch_fault.NoMemory are valid other why = other refl
+patches_apart input asked most p patch_fault.NoMemory are valid few_patches other why = other refl
 
 -- ---- types
 

@@ -4,14 +4,13 @@ use Rattle.std.specs.Prelude.{◌≡◌, ℕ, ◌<◌, true, false, List, length
 use Rattle.rp_outside.specs.Known.{AreAll}
 use Rattle.rp_outside.specs.SureDesk.{SureState, bytes_or_none}
 use Rattle.rp_check.specs.CheckVerdict.{IsCheckVerdict}
-use Rattle.rp_check.specs.RandomCheckVerdict.{IsRandomCheckVerdict}
 use Rattle.rp_check.specs.declared.verdict.Verdict.TheVariants.{Accepted, Rejected}
 use Rattle.rp_evidence.specs.Input.{input_of_table}
 use Rattle.rp_evidence.specs.declared.failure.Reason.{Reason}
 use Rattle.rp_answers.specs.PairsText.{IsPairsText}
 use Rattle.rp_answers.specs.AnalysisText.{IsAnalysisTextBy}
-use Rattle.rp_answers.specs.CheckText.{IsRandomCheck, IsTableCheck}
-use Rattle.rp_answers.specs.RandomText.{IsRandomText}
+use Rattle.rp_answers.specs.CheckText.{IsChoicesVerdict, IsRandomCheck, IsTableCheck}
+use Rattle.rp_answers.specs.ChoicesText.{IsChoicesText}
 use Rattle.rp_answers.specs.DemandText.{IsDemandTextBy}
 use Rattle.rp_answers.specs.WelfareText.{IsWelfareTextBy}
 use Rattle.rp_answers.specs.UtilityText.{IsUtilityText}
@@ -22,15 +21,15 @@ use Rattle.rp_answers.specs.PumpText.{IsPumpText}
 use Rattle.rp_answers.specs.CostText.{IsCostTextBy}
 use Rattle.rp_answers.specs.PowerText.{IsPowerText}
 use Rattle.rp_answers.specs.Printed.{Printed, as_stated}
-use Rattle.rp_answers.specs.Typed.{typed}
 use Rattle.rp_command_line.specs.CommandLine.{Arguments, Line, files_of, file_at, number}
 use Rattle.rp_command_line.specs.declared.commands.Command.{Command}
 use Rattle.rp_command_line.specs.declared.commands.Command.TheVariants.{Pairs, Analyse, Certify, Check, Demand, Welfare}
 use Rattle.rp_command_line.specs.declared.commands.Command.TheVariants.{Utility, Patches}
 use Rattle.rp_command_line.specs.declared.commands.Command.TheVariants.{Random, CheckRandom, Trial, Menus, Pump, Cost, Power}
 use Rattle.rp_run.specs.ChosenInFiles.{AreOfChoicesIn}
-use Rattle.rp_run.specs.Contents.{Contents, Denotes}
+use Rattle.rp_run.specs.Contents.{Contents, DenotesBy}
 use Rattle.rp_run.specs.Contents as contents
+use Rattle.rp_answers.specs.declared.choice_limits.ChoiceLimits.{ChoiceLimits}
 use Rattle.rp_answers.specs.declared.status.Status.{Status}
 use Rattle.rp_answers.specs.declared.status.Status.TheVariants as status
 
@@ -58,7 +57,7 @@ IsTextBy printed Welfare arguments (contents.TableAndPrices table new) text =
     IsWelfareTextBy printed arguments.json table new text
 IsTextBy printed Utility arguments (contents.TableAndBundles table bundles) text = IsUtilityText table bundles text
 IsTextBy printed Random arguments (contents.Choices patches types) text =
-    IsRandomText arguments.json (typed patches types) text
+    IsChoicesText arguments.json patches types text
 IsTextBy printed Patches arguments (contents.Choices patches types) text = IsPatchesText patches text
 IsTextBy printed Trial arguments contents.Nothing text =
     IsTrialTextBy printed (number arguments 0) (number arguments 1) (number arguments 2) text
@@ -78,7 +77,7 @@ abbrev pub AnswersBy : Printed → Command → Arguments → Contents → Status
 AnswersBy printed Check arguments (contents.TableAndCertificate table certificate) s text =
     IsTableCheck table certificate s text
 AnswersBy printed CheckRandom arguments (contents.ChoicesAndCertificate patches types certificate) s text =
-    IsRandomCheck patches certificate s text
+    IsRandomCheck patches types certificate s text
 AnswersBy printed command arguments held s text = (s ≡ status.Done) × IsTextBy printed command arguments held text
 
 abbrev pub Answers : Command → Arguments → Contents → Status → List ℕ → Type 0
@@ -93,14 +92,15 @@ AreOfTheFiles arguments bytes (contents.ChoicesAndCertificate patches types cert
     AreOfChoicesIn arguments (λ k. Some (bytes k)) patches
 AreOfTheFiles arguments bytes _ = Unit {0}
 
--- some bytes of a line's files denote these contents, and patches among them are those of the choices in the files
-abbrev pub HasContents : Files → Line → Contents → Type 0
-HasContents files line held = (bytes : ℕ → List ℕ) × AreContents files line bytes × Denotes line bytes (Ok held)
-    × AreOfTheFiles line.arguments bytes held
+-- some bytes of a line's files denote these contents by the limits of choices, and patches among them are those of the
+-- choices in the files
+abbrev pub HasContentsBy : ChoiceLimits → Files → Line → Contents → Type 0
+HasContentsBy limits files line held = (bytes : ℕ → List ℕ) × AreContents files line bytes
+    × DenotesBy limits line bytes (Ok held) × AreOfTheFiles line.arguments bytes held
 
 -- the text and the status answer a line, over some content of its files
 abbrev pub AnswersLineBy : Printed → Files → Line → Status → List ℕ → Type 0
-AnswersLineBy printed files line s text = (held : Contents) × HasContents files line held
+AnswersLineBy printed files line s text = (held : Contents) × HasContentsBy printed.limits files line held
     × AnswersBy printed line.command line.arguments held s text
 
 abbrev pub AnswersLine : Files → Line → Status → List ℕ → Type 0
@@ -115,18 +115,25 @@ abbrev pub AnswersDenoted : Files → Option Line → Status → List ℕ → Ty
 AnswersDenoted = AnswersDenotedBy as_stated
 
 -- some content of a line's files is refused with that line of text
-abbrev pub RefusesWith : Files → Line → List ℕ → Type 0
-RefusesWith files line text = (bytes : ℕ → List ℕ) × AreContents files line bytes × Denotes line bytes (Err text)
+abbrev pub RefusesWithBy : ChoiceLimits → Files → Line → List ℕ → Type 0
+RefusesWithBy limits files line text = (bytes : ℕ → List ℕ) × AreContents files line bytes
+    × DenotesBy limits line bytes (Err text)
 
 -- nothing refuses a line: whatever its files may hold denotes contents
+abbrev pub IsAcceptedBy : ChoiceLimits → Files → Line → Type 0
+IsAcceptedBy limits files line = (bytes : ℕ → List ℕ) → AreContents files line bytes
+    → (held : Contents) × DenotesBy limits line bytes (Ok held)
+
 abbrev pub IsAccepted : Files → Line → Type 0
-IsAccepted files line = (bytes : ℕ → List ℕ) → AreContents files line bytes
-    → (held : Contents) × Denotes line bytes (Ok held)
+IsAccepted = IsAcceptedBy as_stated.limits
 
 -- a line is refused, whatever its files may hold
+abbrev pub IsRefusedBy : ChoiceLimits → Files → Line → Type 0
+IsRefusedBy limits files line = (bytes : ℕ → List ℕ) → AreContents files line bytes
+    → (text : List ℕ) × DenotesBy limits line bytes (Err text)
+
 abbrev pub IsRefused : Files → Line → Type 0
-IsRefused files line = (bytes : ℕ → List ℕ) → AreContents files line bytes
-    → (text : List ℕ) × Denotes line bytes (Err text)
+IsRefused = IsRefusedBy as_stated.limits
 
 -- there is a certificate among the contents, and the checker rejects it
 abbrev pub IsRejectedOver : Contents → Type 0
@@ -135,7 +142,7 @@ IsRejectedOver (contents.TableAndCertificate table certificate) =
     × IsCheckVerdict (input_of_table table) certificate.levels certificate.items (Rejected item reason place)
 IsRejectedOver (contents.ChoicesAndCertificate patches types certificate) =
     (item : ℕ) × (reason : Reason) × (place : ℕ)
-    × IsRandomCheckVerdict patches certificate.items (Rejected item reason place)
+    × IsChoicesVerdict patches types certificate.items (Rejected item reason place)
 IsRejectedOver _ = ⊥
 
 -- there is a certificate among the contents, and the checker accepts it
@@ -143,14 +150,14 @@ abbrev pub IsAcceptedOver : Contents → Type 0
 IsAcceptedOver (contents.TableAndCertificate table certificate) =
     IsCheckVerdict (input_of_table table) certificate.levels certificate.items Accepted
 IsAcceptedOver (contents.ChoicesAndCertificate patches types certificate) =
-    IsRandomCheckVerdict patches certificate.items Accepted
+    IsChoicesVerdict patches types certificate.items Accepted
 IsAcceptedOver _ = ⊥
 
 -- some content of a line's files denotes such contents
-abbrev pub MayBe : (Contents → Type 0) → Files → Line → Type 0
-MayBe holds files line = (held : Contents) × HasContents files line held × holds held
+abbrev pub MayBeBy : ChoiceLimits → (Contents → Type 0) → Files → Line → Type 0
+MayBeBy limits holds files line = (held : Contents) × HasContentsBy limits files line held × holds held
 
 -- whatever the files of a line may hold, it denotes no other than such contents
-abbrev pub MustBe : (Contents → Type 0) → Files → Line → Type 0
-MustBe holds files line = (bytes : ℕ → List ℕ) → AreContents files line bytes → (held : Contents)
-    → Denotes line bytes (Ok held) → holds held
+abbrev pub MustBeBy : ChoiceLimits → (Contents → Type 0) → Files → Line → Type 0
+MustBeBy limits holds files line = (bytes : ℕ → List ℕ) → AreContents files line bytes → (held : Contents)
+    → DenotesBy limits line bytes (Ok held) → holds held

@@ -6,9 +6,10 @@ use Rattle.rp_outside.specs.Faults.{EachStays, HasRisen, NoneFalls}
 use Rattle.rp_outside.specs.Known.{Stays, Grows, GrowsByPrefix}
 use Rattle.rp_command_line.specs.CommandLine.{Line}
 use Rattle.rp_answers.specs.Printed.{Printed, as_stated}
+use Rattle.rp_answers.specs.declared.choice_limits.ChoiceLimits.{ChoiceLimits}
 use Rattle.rp_answers.specs.declared.status.Status.{Status}
 use Rattle.rp_answers.specs.declared.status.Status.TheVariants.{Done, Rejected, Usage, WriteFault, NoMemory}
-use Rattle.rp_run.specs.Answers.{AnswersDenotedBy, Files, IsAcceptedOver, IsRejectedOver, MayBe, MustBe}
+use Rattle.rp_run.specs.Answers.{AnswersDenotedBy, Files, IsAcceptedOver, IsRejectedOver, MayBeBy, MustBeBy}
 use Rattle.rp_run.specs.Endings.{IsEnd, IsFaultLineBy, IsSilent}
 use Rattle.rp_run.specs.Gains.{Gains}
 use Rattle.rp_run.specs.AskedInTurn.{AreAskedInTurn}
@@ -34,11 +35,18 @@ pub record IsWrittenBy (printed : Printed) (files : Files) (denoted : Option Lin
 abbrev pub IsWritten : Files → Option Line → Status → Option (List ℕ) → Option (List ℕ) → ℕ → ℕ → Type 0
 IsWritten = IsWrittenBy as_stated
 
--- the checker's verdict on a certificate
-pub record GivesCheckVerdict (files : Files) (denoted : Option Line) (result : Status) : Type 0 where
-  pub rejected : result ≡ Rejected → (line : Line) × (denoted ≡ Some line) × MayBe IsRejectedOver files line
-  pub never_done : (line : Line) → denoted ≡ Some line → MustBe IsRejectedOver files line → ¬ (result ≡ Done)
-  pub never_rejected : (line : Line) → denoted ≡ Some line → MustBe IsAcceptedOver files line → ¬ (result ≡ Rejected)
+-- the checker's verdict on a certificate, by the limits of choices
+pub record GivesCheckVerdictBy (limits : ChoiceLimits) (files : Files) (denoted : Option Line) (result : Status)
+    : Type 0 where
+  pub rejected : result ≡ Rejected → (line : Line) × (denoted ≡ Some line) × MayBeBy limits IsRejectedOver files line
+  pub never_done : (line : Line) → denoted ≡ Some line → MustBeBy limits IsRejectedOver files line
+      → ¬ (result ≡ Done)
+  pub never_rejected : (line : Line) → denoted ≡ Some line → MustBeBy limits IsAcceptedOver files line
+      → ¬ (result ≡ Rejected)
+
+-- the same by those of the program that prints all as it stands
+abbrev pub GivesCheckVerdict : Files → Option Line → Status → Type 0
+GivesCheckVerdict = GivesCheckVerdictBy as_stated.limits
 
 -- why there is no answer, and what standard error gains, by its known bytes and its counts of faults. `rose file` says
 -- that the count of faults of a file has risen, and `asks line n` that the desk was asked for no more than the first n

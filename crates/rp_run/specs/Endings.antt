@@ -3,7 +3,7 @@
 use Rattle.std.specs.Prelude.{◌≡◌, ◌<◌, ℕ, suc, List, Option, Some, Contains, length}
 use Rattle.rp_outside.specs.Faults.{HasRisen}
 use Rattle.rp_command_line.specs.CommandLine.{Line, file_at, files_of}
-use Rattle.rp_run.specs.Answers.{Files, RefusesWith}
+use Rattle.rp_run.specs.Answers.{Files, RefusesWithBy}
 use Rattle.rp_run.specs.FaultLines.{read_line, write_line, memory_line}
 use Rattle.rp_answers.specs.Printed.{Printed, as_stated}
 use Rattle.rp_answers.specs.declared.status.Status.{Status}
@@ -50,7 +50,7 @@ IsFaultLineBy printed files rose asks denoted ReadFault text =
     (line : Line) × (k : ℕ) × (denoted ≡ Some line) × (k < length (files_of line))
     × rose (file_at line k) × (text ≡ read_line (file_at line k)) × asks line (suc k)
 IsFaultLineBy printed files rose asks denoted Refused text =
-    (line : Line) × (denoted ≡ Some line) × RefusesWith files line text
+    (line : Line) × (denoted ≡ Some line) × RefusesWithBy printed.limits files line text
 IsFaultLineBy printed files rose asks denoted WriteFault text = text ≡ write_line
 IsFaultLineBy printed files rose asks denoted NoMemory text = text ≡ memory_line
 

@@ -3,7 +3,7 @@ use Rattle.std.specs.Prelude.{◌≡◌, ◌≢◌, ◌<◌, ℕ, suc, List, Res
 use Rattle.rp_command_line.specs.CommandLine.{Line, file_at, files_of}
 use Rattle.rp_run.specs.Readings.{Reading}
 use Rattle.rp_outside.specs.Known.{AreAll}
-use Rattle.rp_run.specs.Answers.{Files, RefusesWith}
+use Rattle.rp_run.specs.Answers.{Files, RefusesWithBy}
 use Rattle.rp_patch.specs.declared.fault.PatchFault.{PatchFault}
 use Rattle.rp_patch.specs.declared.fault.PatchFault.TheVariants as patch_fault
 use Rattle.rp_types.specs.declared.fault.TypesFault.{TypesFault}
@@ -11,6 +11,7 @@ use Rattle.rp_types.specs.declared.fault.TypesFault.TheVariants as types_fault
 use Rattle.rp_run.specs.FaultLines.{read_line, memory_line, patch_line, types_line}
 use Rattle.rp_run.specs.declared.files.Cause.{Cause}
 use Rattle.rp_run.specs.declared.files.Cause.TheVariants.{Read, Refused, NoMemory}
+use Rattle.rp_answers.specs.declared.choice_limits.ChoiceLimits.{ChoiceLimits}
 use Rattle.rp_answers.specs.declared.status.Status.{Status}
 use Rattle.rp_answers.specs.declared.status.Status.TheVariants as status
 
@@ -66,9 +67,10 @@ IsLoaded files rose file reading result =
     MatchResult result (HoldsValue files file reading) (IsFileCause files rose file reading)
 
 -- why a line has no input: the count of its k-th file (from 0) rose, and none was asked for after it; or some content
--- of them is refused. `asks line n` says that the desk was asked for no more than the first n files
-abbrev pub IsCause : Files → (List ℕ → Type 0) → (Line → ℕ → Type 0) → Line → Cause → Type 0
-IsCause files rose asks line (Read file) =
+-- of them is refused, by the limits of choices. `asks line n` says that the desk was asked for no more than the first n
+-- files
+abbrev pub IsCause : ChoiceLimits → Files → (List ℕ → Type 0) → (Line → ℕ → Type 0) → Line → Cause → Type 0
+IsCause limits files rose asks line (Read file) =
     (k : ℕ) × (k < length (files_of line)) × (file.now ≡ file_at line k) × rose file.now × asks line (suc k)
-IsCause files rose asks line (Refused text) = RefusesWith files line text.items
-IsCause files rose asks line NoMemory = Unit {0}
+IsCause limits files rose asks line (Refused text) = RefusesWithBy limits files line text.items
+IsCause limits files rose asks line NoMemory = Unit {0}

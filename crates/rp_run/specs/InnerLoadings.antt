@@ -6,6 +6,7 @@ use Rattle.rp_outside.specs.Asked.{AsksAtMostOnce, AsksOnce, Reads}
 use Rattle.rp_outside.specs.Faults.{EachStays, NoneFalls}
 use Rattle.rp_outside.specs.Reads.{calls_through}
 use Rattle.rp_table.specs.Tables.{Observations}
+use Rattle.rp_answers.specs.declared.choice_limits.ChoiceLimits.{ChoiceLimits}
 use Rattle.rp_command_line.specs.CommandLine.{Line}
 use Rattle.rp_run.specs.Answers.{Files}
 use Rattle.rp_run.specs.InnerCauses.{IsCause, IsLoaded}
@@ -40,10 +41,11 @@ pub record ReadsLine {D : Type 0} (bytes : D → Files) (faults : D → List ℕ
   pub bytes_stay : EachStays (bytes old) (bytes new)
   pub never_falls : NoneFalls (faults old) (faults new)
 
--- they are read so, and give such a value, or why there is none
-pub record LoadsLine {D A : Type 0} (bytes : D → Files) (faults : D → List ℕ → ℕ) (calls : D → ℕ)
-    (asked : D → Option Reads) (old new : D) (line : Line) (holds : A → Type 0) (result : Result A Cause) : Type 0 where
+-- they are read so, and give such a value, or why there is none, by the limits of choices
+pub record LoadsLine {D A : Type 0} (limits : ChoiceLimits) (bytes : D → Files) (faults : D → List ℕ → ℕ)
+    (calls : D → ℕ) (asked : D → Option Reads) (old new : D) (line : Line) (holds : A → Type 0)
+    (result : Result A Cause) : Type 0 where
   pub held : IfOk result holds
-  pub caused : IfErr result (IsCause (bytes old) (Rose (faults old) (faults new))
+  pub caused : IfErr result (IsCause limits (bytes old) (Rose (faults old) (faults new))
       (AsksForFirst (bytes old) (calls old) (calls new)) line)
   pub reads : ReadsLine bytes faults calls asked old new line

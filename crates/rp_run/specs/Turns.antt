@@ -31,7 +31,8 @@ AsksForFirst files before after line n = after ≤ before + sum (take n (calls_o
 abbrev pub first_known : Files → Line → ℕ → ℕ → Option (List ℕ)
 first_known files line n k = if nat_lt k n then files (file_at line k) else None
 
--- what is known of the first n files of a line is refused, whatever the others hold
+-- what is known of the first n files of a line is refused, whatever the others hold. The limits of choices do not matter
+-- to what is asked: they are looked at once all files are read
 abbrev pub AreRefused : Files → Line → ℕ → Type 0
 AreRefused files line n = (text : List ℕ)
     × ContentsIn (takes_levels line) (file_set line) line.arguments (first_known files line n) (Err text)

@@ -34,53 +34,63 @@ pub(crate) fn answer_line<'a, P: Edition, D: Desk>(
     line: &Line<'a>,
 ) -> Result<Answer, Cause<'a>>
     requires { IsSized (named_line line.now) }
-    ensures { LoadsLine D.bytes D.faults D.calls D.asked desk.old desk.new (named_line line.now)
-        (λ answer. AnswersLineBy P.printed (D.bytes desk.old) (named_line line.now)
+    ensures { LoadsLine P.printed.limits D.bytes D.faults D.calls D.asked
+        desk.old desk.new (named_line line.now) (λ answer. AnswersLineBy P.printed (D.bytes desk.old) (named_line line.now)
         answer.status answer.text.items) result }
 {
     match line.command {
-        Command::Pairs => done(pairs_text(alloc, &load_table(alloc, desk, line)?)),
-        Command::Analyse => done(analysis_text::<P>(alloc, &load_table(alloc, desk, line)?, false)),
-        Command::Certify => done(analysis_text::<P>(alloc, &load_table(alloc, desk, line)?, true)),
+        Command::Pairs => done(pairs_text(alloc, &load_table::<P, D>(alloc, desk, line)?)),
+        Command::Analyse => done(analysis_text::<P>(
+            alloc,
+            &load_table::<P, D>(alloc, desk, line)?,
+            false,
+        )),
+        Command::Certify => done(analysis_text::<P>(
+            alloc,
+            &load_table::<P, D>(alloc, desk, line)?,
+            true,
+        )),
         Command::Check => {
-            let (table, certificate) = load_table_certificate(alloc, desk, line)?;
+            let (table, certificate) = load_table_certificate::<P, D>(alloc, desk, line)?;
             whole(check_answer(alloc, &table, &certificate))
         }
         Command::Demand => {
-            let (table, new) = load_table_prices_with_expenditure(alloc, desk, line)?;
+            let (table, new) = load_table_prices_with_expenditure::<P, D>(alloc, desk, line)?;
             done(demand_text::<P>(alloc, &table, &new, line.arguments.json))
         }
         Command::Welfare => {
-            let (table, new) = load_table_prices(alloc, desk, line)?;
+            let (table, new) = load_table_prices::<P, D>(alloc, desk, line)?;
             done(welfare_text::<P>(alloc, &table, &new, line.arguments.json))
         }
         Command::Utility => {
-            let (table, bundles) = load_table_bundles(alloc, desk, line)?;
+            let (table, bundles) = load_table_bundles::<P, D>(alloc, desk, line)?;
             done(utility_text(alloc, &table, &bundles))
         }
         Command::Random => {
-            let (patches, types) = load_patches(alloc, desk, line)?;
+            let (patches, types) = load_patches::<P, D>(alloc, desk, line)?;
             done(random_text(alloc, &patches, &types, line.arguments.json))
         }
         Command::CheckRandom => {
-            let (patches, _types, certificate) = load_patches_certificate(alloc, desk, line)?;
-            whole(check_random_answer(alloc, &patches, &certificate))
+            let (patches, types, certificate) = load_patches_certificate::<P, D>(
+                alloc, desk, line,
+            )?;
+            whole(check_random_answer(alloc, &patches, &types, &certificate))
         }
         Command::Patches => {
-            let (patches, _types) = load_patches(alloc, desk, line)?;
+            let (patches, _types) = load_patches::<P, D>(alloc, desk, line)?;
             done(patches_text(alloc, &patches))
         }
         Command::Trial => done(text_of_trial::<P>(alloc, line)),
         Command::Menus => {
-            let (seen, units) = load_menus_with_units(alloc, desk, line)?;
+            let (seen, units) = load_menus_with_units::<P, D>(alloc, desk, line)?;
             done(menus_text(alloc, &seen, &units, line.arguments.per))
         }
-        Command::Pump => done(pump_text(alloc, &load_table(alloc, desk, line)?)),
+        Command::Pump => done(pump_text(alloc, &load_table::<P, D>(alloc, desk, line)?)),
         Command::Cost => {
-            let (tech, asked) = load_technology_asked(alloc, desk, line)?;
+            let (tech, asked) = load_technology_asked::<P, D>(alloc, desk, line)?;
             done(cost_text::<P>(alloc, &tech, &asked))
         }
-        Command::Power => done(text_of_power(alloc, line, &load_table(alloc, desk, line)?)),
+        Command::Power => done(text_of_power(alloc, line, &load_table::<P, D>(alloc, desk, line)?)),
     }
 }
 

@@ -15,7 +15,10 @@ mod telling;
 mod told;
 mod units;
 
-pub use laws::{bytes_denote_one_input_or_refusal, patches_are_of_choices_in_files};
+pub use laws::{
+    bytes_denote_one_input_or_refusal, listed_choices_are_denoted_alike,
+    patches_are_of_choices_in_files,
+};
 pub use rp_answers::{Status, trial_table};
 pub use running::{run, run_edition};
 pub use sure::run_surely;

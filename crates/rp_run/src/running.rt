@@ -7,8 +7,9 @@ ghost use Rattle.rp_command_line.specs.CommandLine.{Line as Asked};
 ghost use Rattle.rp_command_line.specs.Words.{line_in};
 ghost use Rattle.rp_command_line.specs.Commands.{program};
 ghost use Rattle.rp_command_line.specs.Shapes.{HasShape, shape_of};
-ghost use Rattle.rp_run.specs.Answers.{IsAccepted, IsRefused};
+ghost use Rattle.rp_run.specs.Answers.{IsAccepted, IsAcceptedBy, IsRefused, IsRefusedBy};
 ghost use Rattle.rp_run.specs.Calls.{AnswersUsage, AsksByName, AsksInTurn, GivesCheckVerdict};
+ghost use Rattle.rp_run.specs.Calls.{GivesCheckVerdictBy};
 ghost use Rattle.rp_run.specs.Calls.{IsWritten, IsWrittenBy, LeavesTheRest};
 ghost use Rattle.rp_run.specs.Calls.{TellsWhy, TellsWhyBy};
 ghost use Rattle.rp_run.specs.FaultLines.{write_line};
@@ -82,7 +83,7 @@ pub fn run<D: Desk, O: Sink, E: Sink>(
     run_edition::<AsStated, D, O, E>(alloc, words, desk, out, err)
 }
 
-/// The same by any edition of the program, whose texts these are.
+/// The same by any edition of the program, whose texts and limits of choices these are.
 pub fn run_edition<P: Edition, D: Desk, O: Sink, E: Sink>(
     alloc: Global,
     words: &Vec<String>,
@@ -103,7 +104,8 @@ pub fn run_edition<P: Edition, D: Desk, O: Sink, E: Sink>(
         (O.written out.old) (O.written out.new) (O.faults out.old) (O.faults out.new) }
 
     // The checker's verdict on a certificate.
-    ensures verdict { GivesCheckVerdict (D.bytes desk.old) (line_in words.now.items) result }
+    ensures verdict { GivesCheckVerdictBy P.printed.limits (D.bytes desk.old)
+        (line_in words.now.items) result }
 
     // Why there is no answer.
     ensures why { TellsWhyBy P.printed (D.bytes desk.old)
@@ -122,12 +124,12 @@ pub fn run_edition<P: Edition, D: Desk, O: Sink, E: Sink>(
 
     // When there is one.
     ensures complete { (line : Asked) → line_in words.now.items ≡ Some line
-        → IsAccepted (D.bytes desk.old) line
+        → IsAcceptedBy P.printed.limits (D.bytes desk.old) line
         → NoneRose line (D.faults desk.old) (D.faults desk.new)
         → ¬ HasRisen (O.faults out.old) (O.faults out.new)
         → IsEnd result ⊎ (result ≡ Status.NoMemory) }
     ensures refused { (line : Asked) → line_in words.now.items ≡ Some line
-        → IsRefused (D.bytes desk.old) line
+        → IsRefusedBy P.printed.limits (D.bytes desk.old) line
         → NoneRose line (D.faults desk.old) (D.faults desk.new)
         → (result ≡ Status.Refused) ⊎ (result ≡ Status.NoMemory) }
 

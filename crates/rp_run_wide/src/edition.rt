@@ -1,5 +1,5 @@
 //! The edition of the program that fills what is withheld.
-use rp_answers::{Edition, Verdicts, report_or_json, report_trial};
+use rp_answers::{ChoiceLimits, Edition, Verdicts, report_or_json, report_trial};
 use rp_cost::{Asked, CostBounds, Tech, report_cost};
 use rp_evidence::Certificate;
 use rp_filled::{fill_certificate, fill_costs, fill_homothetic};
@@ -7,7 +7,8 @@ use rp_num::{NoMemory, Seq};
 use rp_table::Table;
 use std::alloc::Global;
 
-/// The edition that fills what is withheld where evidence is found: `rp-wide`.
+/// The edition that fills what is withheld where evidence is found, and answers choices whose rational types are not
+/// listed: `rp-wide`.
 pub struct Filled;
 
 impl Edition for Filled {
@@ -57,5 +58,9 @@ impl Edition for Filled {
 
     fn usage() -> &'static [u8] {
         b"usage: rp-wide pairs TABLE\n       rp-wide analyse TABLE\n       rp-wide certify TABLE\n       rp-wide check TABLE CERT\n       rp-wide demand TABLE NEW [--json]\n       rp-wide welfare TABLE NEW [--json]\n       rp-wide utility TABLE BUNDLES\n       rp-wide random BUDGETS CHOICES [--per N] [--json]\n       rp-wide checkrandom BUDGETS CHOICES CERT [--per N]\n       rp-wide patches BUDGETS CHOICES [--per N]\n       rp-wide trial SEED ROWS GOODS\n       rp-wide menus FILE [--per N]\n       rp-wide pump TABLE\n       rp-wide cost TECH NEW\n       rp-wide power TABLE SEED N\n"
+    }
+
+    fn limits() -> ChoiceLimits {
+        ChoiceLimits::Unlisted
     }
 }

@@ -6,8 +6,8 @@ ghost use Rattle.rp_command_line.specs.CommandLine.{Line as Asked};
 ghost use Rattle.rp_command_line.specs.Words.{line_in};
 ghost use Rattle.rp_command_line.specs.Commands.{program};
 ghost use Rattle.rp_command_line.specs.Shapes.{HasShape, shape_of};
-ghost use Rattle.rp_run.specs.Answers.{IsAccepted, IsRefused};
-ghost use Rattle.rp_run.specs.Calls.{AnswersUsage, AsksByName, AsksInTurn, GivesCheckVerdict};
+ghost use Rattle.rp_run.specs.Answers.{IsAcceptedBy, IsRefusedBy};
+ghost use Rattle.rp_run.specs.Calls.{AnswersUsage, AsksByName, AsksInTurn, GivesCheckVerdictBy};
 ghost use Rattle.rp_run.specs.Calls.{IsWrittenBy, LeavesTheRest};
 ghost use Rattle.rp_run.specs.Calls.{TellsWhyBy};
 ghost use Rattle.rp_run.specs.Endings.{IsEnd, Rose, NoneRose};
@@ -19,7 +19,8 @@ use rp_outside::{Desk, Sink};
 use rp_run::{Status, run_edition};
 use std::alloc::Global;
 
-/// Answers the words of a command line as `run` does, with what is withheld filled where evidence is found.
+/// Answers the words of a command line as `run` does, with what is withheld filled where evidence is found, and choices
+/// whose rational types are not listed answered too.
 pub fn run_wide<D: Desk, O: Sink, E: Sink>(
     alloc: Global,
     words: &Vec<String>,
@@ -40,7 +41,8 @@ pub fn run_wide<D: Desk, O: Sink, E: Sink>(
         (O.written out.old) (O.written out.new) (O.faults out.old) (O.faults out.new) }
 
     // The checker's verdict on a certificate.
-    ensures verdict { GivesCheckVerdict (D.bytes desk.old) (line_in words.now.items) result }
+    ensures verdict { GivesCheckVerdictBy as_filled.limits (D.bytes desk.old)
+        (line_in words.now.items) result }
 
     // Why there is no answer.
     ensures why { TellsWhyBy as_filled (D.bytes desk.old)
@@ -59,12 +61,12 @@ pub fn run_wide<D: Desk, O: Sink, E: Sink>(
 
     // When there is one.
     ensures complete { (line : Asked) → line_in words.now.items ≡ Some line
-        → IsAccepted (D.bytes desk.old) line
+        → IsAcceptedBy as_filled.limits (D.bytes desk.old) line
         → NoneRose line (D.faults desk.old) (D.faults desk.new)
         → ¬ HasRisen (O.faults out.old) (O.faults out.new)
         → IsEnd result ⊎ (result ≡ Status.NoMemory) }
     ensures refused { (line : Asked) → line_in words.now.items ≡ Some line
-        → IsRefused (D.bytes desk.old) line
+        → IsRefusedBy as_filled.limits (D.bytes desk.old) line
         → NoneRose line (D.faults desk.old) (D.faults desk.new)
         → (result ≡ Status.Refused) ⊎ (result ≡ Status.NoMemory) }
 

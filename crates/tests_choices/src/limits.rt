@@ -4,58 +4,8 @@ ghost use Rattle.std.specs.Prelude.{◌≤◌};
 use crate::lines::{ACCEPTED, CHECKED, RANDOM};
 use std::alloc::{AllocError, Global};
 use std::test::Fail;
+use tests_inputs::choices::{choices_on_pairs, corners, fan, pairs};
 use tests_support::{prints, refuses};
-
-/// So many budgets with prices (j, n + 1 - j) and income 1.
-fn fan(alloc: Global, n: u32) -> Result<String, AllocError>
-    requires { n ≤ 48 }
-{
-    let mut text = String::from_str(alloc, "p_a,p_b,w\n")?;
-    for j in 0..n {
-        let (first, second) = (j + 1, n - j);
-        text.push_str(format!(in alloc; "{first},{second},1\n")?.as_str())?;
-    }
-    Ok(text)
-}
-
-/// Choices of each good alone on each of so many budgets: once each, or so that each budget has another number of
-/// choices.
-fn corners(alloc: Global, n: u32, once: bool) -> Result<String, AllocError>
-    requires { n ≤ 48 }
-{
-    let mut text = String::from_str(alloc, "budget,q_a,q_b,n\n")?;
-    for j in 1..n + 1 {
-        let times = if once { 1 } else { 99_990 - j };
-        text.push_str(format!(in alloc; "{j},1,0,1\n{j},0,1,{times}\n")?.as_str())?;
-    }
-    Ok(text)
-}
-
-/// So many pairs of crossed budgets, each with ten times the income of the one before.
-fn pairs(alloc: Global, n: u32) -> Result<String, AllocError>
-    requires { n ≤ 8 }
-{
-    let mut text = String::from_str(alloc, "p_a,p_b,w\n")?;
-    let mut income = String::from_str(alloc, "4")?;
-    for _ in 0..n {
-        let w = income.as_str();
-        text.push_str(format!(in alloc; "1,2,{w}\n2,1,{w}\n")?.as_str())?;
-        income.push_str("0")?;
-    }
-    Ok(text)
-}
-
-/// The same four choices on each pair.
-fn choices_on_pairs(alloc: Global, n: u32) -> Result<String, AllocError>
-    requires { n ≤ 8 }
-{
-    let mut text = String::from_str(alloc, "budget,q_a,q_b,n\n")?;
-    for i in 0..n {
-        let (a, b) = (2 * i + 1, 2 * i + 2);
-        text.push_str(format!(in alloc; "{a},2,1,1\n{a},0,2,3\n{b},1,2,2\n{b},2,0,2\n")?.as_str())?;
-    }
-    Ok(text)
-}
 
 const RANDOM_PER_2: &[&str] = &["rp", "random", "b.csv", "c.csv", "--per", "2"];
 

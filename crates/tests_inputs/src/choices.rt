@@ -1,4 +1,7 @@
 //! Budgets and choices whose answers are known, and their certificates.
+ghost use Rattle.std.specs.Prelude.{◌≤◌};
+
+use std::alloc::{AllocError, Global};
 
 /// Two budgets, with the prices 1, 2 and 2, 1, and 4 to spend on each.
 pub const CROSSED: &str = "p_a,p_b,w\n1,2,4\n2,1,4\n";
@@ -66,3 +69,54 @@ pub const OF_HALVES: &str =
 /// A certificate of one observation's verdict, which is one on a table.
 pub const ON_A_TABLE: &str =
     "{\"items\":[{\"item\":\"garp\",\"ranks\":[1]}],\"kind\":\"table\",\"version\":1}\n";
+
+/// So many budgets with prices (j, n + 1 - j) and income 1.
+pub fn fan(alloc: Global, n: u32) -> Result<String, AllocError>
+    requires { n ≤ 48 }
+{
+    let mut text = String::from_str(alloc, "p_a,p_b,w\n")?;
+    for j in 0..n {
+        let (first, second) = (j + 1, n - j);
+        text.push_str(format!(in alloc; "{first},{second},1\n")?.as_str())?;
+    }
+    Ok(text)
+}
+
+/// Choices of each good alone on each of so many budgets: once each, or so that each budget has another number of
+/// choices.
+pub fn corners(alloc: Global, n: u32, once: bool) -> Result<String, AllocError>
+    requires { n ≤ 48 }
+{
+    let mut text = String::from_str(alloc, "budget,q_a,q_b,n\n")?;
+    for j in 1..n + 1 {
+        let times = if once { 1 } else { 99_990 - j };
+        text.push_str(format!(in alloc; "{j},1,0,1\n{j},0,1,{times}\n")?.as_str())?;
+    }
+    Ok(text)
+}
+
+/// So many pairs of crossed budgets, each with ten times the income of the one before.
+pub fn pairs(alloc: Global, n: u32) -> Result<String, AllocError>
+    requires { n ≤ 8 }
+{
+    let mut text = String::from_str(alloc, "p_a,p_b,w\n")?;
+    let mut income = String::from_str(alloc, "4")?;
+    for _ in 0..n {
+        let w = income.as_str();
+        text.push_str(format!(in alloc; "1,2,{w}\n2,1,{w}\n")?.as_str())?;
+        income.push_str("0")?;
+    }
+    Ok(text)
+}
+
+/// The same four choices on each pair.
+pub fn choices_on_pairs(alloc: Global, n: u32) -> Result<String, AllocError>
+    requires { n ≤ 8 }
+{
+    let mut text = String::from_str(alloc, "budget,q_a,q_b,n\n")?;
+    for i in 0..n {
+        let (a, b) = (2 * i + 1, 2 * i + 2);
+        text.push_str(format!(in alloc; "{a},2,1,1\n{a},0,2,3\n{b},1,2,2\n{b},2,0,2\n")?.as_str())?;
+    }
+    Ok(text)
+}

@@ -25,7 +25,7 @@ fn reported(alloc: Global, patches: &Patches, types: u32, items: Vec<Item>) -> R
     let certificate = certificate(alloc, items);
     match check_random(patches, &certificate) {
         Verdict::Accepted => {
-            let text = report_random(alloc, &certificate, patches, types)?;
+            let text = report_random(alloc, &certificate, patches, Some(types))?;
             Ok(String::from_utf8(text)?)
         }
         Verdict::Rejected { .. } => Ok(String::from_str(alloc, "rejected")?),

@@ -1,7 +1,10 @@
 //! Tests of the searches for what passes the width of the stated computations: numbers of two words, the homothetic
-//! test by rounded products, bounds by a tableau over one denominator, and certificates that are filled with them.
+//! test by rounded products, bounds by a tableau over one denominator, certificates that are filled with them, and choices
+//! whose rational types are not listed.
 #![tactic(auto)]
 
+#[cfg(test)]
+mod choices;
 #[cfg(test)]
 mod fills;
 #[cfg(test)]

@@ -13,9 +13,9 @@ const ROOM: u64 = 65_536;
 
 /// What the wider edition writes and tells on these words over these files.
 #[derive(Drop)]
-struct Written {
-    out: String,
-    err: String,
+pub(crate) struct Written {
+    pub(crate) out: String,
+    pub(crate) err: String,
 }
 
 /// The words of a command line.
@@ -40,7 +40,11 @@ fn owned_files(alloc: Global, files: &[(&str, &str)]) -> Result<Vec<MemFile>, Fa
 }
 
 /// Runs the words over these files by the wider edition.
-fn run_wide_over(alloc: Global, words: &[&str], files: &[(&str, &str)]) -> Result<Written, Fail> {
+pub(crate) fn run_wide_over(
+    alloc: Global,
+    words: &[&str],
+    files: &[(&str, &str)],
+) -> Result<Written, Fail> {
     let all = owned_words(alloc, words)?;
     let mut desk = MemDesk::new(owned_files(alloc, files)?, Vec::new(alloc));
     let mut out = MemSink::new(alloc, ROOM, Vec::new(alloc))?;
@@ -53,7 +57,11 @@ fn run_wide_over(alloc: Global, words: &[&str], files: &[(&str, &str)]) -> Resul
 }
 
 /// Whether both editions write and tell the same on these words over these files.
-fn are_alike(alloc: Global, words: &[&str], files: &[(&str, &str)]) -> Result<bool, Fail> {
+pub(crate) fn are_alike(
+    alloc: Global,
+    words: &[&str],
+    files: &[(&str, &str)],
+) -> Result<bool, Fail> {
     let wide = run_wide_over(alloc, words, files)?;
     let stated = run_over(alloc, words, files)?;
     Ok(wide.out.as_str() == stated.out.as_str() && wide.err.as_str() == stated.err.as_str())

@@ -33,7 +33,7 @@ digits_taken <- function() nchar(limit_text("table.largest"))
 # What to do about each fault where nothing more is known: one for each of the catalogue, and no other (tests/catalogue.R).
 hints <- function() {
   name <- paste0("a name of a good has 1 to ", limit_text("table.name_bytes"), " bytes, none of them a control character, and stands once")
-  fewer <- ": ask about fewer budgets"
+  wider <- ": rp lists no more, and rp-wide takes them: leave wide = FALSE out, and have it beside the program, in the library, or named by RP_WIDE"
   list(
     Empty = "there is no line at all: see why nothing was written",
     Ragged = "each record has as many fields as there are names of columns",
@@ -58,18 +58,20 @@ hints <- function() {
     BadMenu = paste("a menu is one to", limit_text("menu.letters"), "letters from a on, each after the one before it, without blanks"),
     BadChoice = "the letter that was chosen is one of its menu",
     NoMenus = "every n is 0, so nothing was chosen",
-    TooManyCells = paste0("there are more than ", limit_text("patch.places"), " pairs of a menu and a choice: ask about fewer menus"),
+    TooManyCells = paste0("there are more than ", limit_text("menu.cells"), " pairs of a menu and a choice: ask about fewer menus"),
     NotJson = "a certificate is JSON in UTF-8",
     BadVersion = "a certificate has the version 1, or with levels 2",
     BadShape = "the item is none of its kind, or has a number that no item has; item 0 is the certificate as a whole",
     TooLong = paste("a file has at most", limit_text("run.bytes"), "bytes, and a certificate", limit_text("run.certificate_bytes")),
     OwnLevels = "this is defined without levels of observations: leave the column e, or the argument levels, out",
-    TooManyPatches = paste0("there are more than ", limit_text("patch.patches"), " patches", fewer),
+    TooManyPatches = paste0(
+      "rp takes ", limit_text("patch.patches"), " patches, and rp-wide ", limit_text("generated.patches"), ": ask about fewer budgets"
+    ),
     NeedUnit = paste0(
       "the counts have no common multiple up to ", limit_text("patch.units"), ": per = 1000 takes the shares in thousandths, rounded"
     ),
-    TooManyCombinations = paste0("a patch of each budget can be taken in more than ", limit_text("types.combinations"), " ways", fewer),
-    TooManyTypes = paste0("there are more than ", limit_text("types.types"), " rational types", fewer)
+    TooManyCombinations = paste0("a patch of each budget can be taken in more than ", limit_text("types.combinations"), " ways", wider),
+    TooManyTypes = paste0("there are more than ", limit_text("types.types"), " rational types", wider)
   )
 }
 

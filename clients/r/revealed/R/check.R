@@ -1,24 +1,24 @@
 # The program's checker of certificates.
 
-rp_check <- function(data, certificate, per = NULL, levels = NULL, exe = NULL) {
+rp_check <- function(data, certificate, per = NULL, levels = NULL, exe = NULL, wide = TRUE) {
   of <- files_of(data, per, levels)
   words <- c(of$command, names(of$files), "certificate.json", units_of(of$per))
   of$files$certificate.json <- certificate_bytes(certificate)
-  text <- ask(words, of$files, engine_of(exe), of$sheets, good = 0:1)
-  reading(text, checked_from(text))
+  given <- ask_choices(words, of$files, engine_of(exe), of$sheets, wide, good = 0:1)
+  reading(given$text, checked_from(given$text, given$is_wide))
 }
 
-rp_checkrandom <- function(budgets, choices, certificate, per = NULL, exe = NULL) {
-  rp_check(list(budgets = budgets, choices = choices), certificate, per, exe = exe)
+rp_checkrandom <- function(budgets, choices, certificate, per = NULL, exe = NULL, wide = TRUE) {
+  rp_check(list(budgets = budgets, choices = choices), certificate, per, exe = exe, wide = wide)
 }
 
-checked_from <- function(text) {
+checked_from <- function(text, is_wide = FALSE) {
   said <- numbers_of(sub("\n$", "", text), "^(accepted items ([0-9]+) withheld ([0-9]+)|rejected item ([0-9]+) ([A-Za-z]+) place ([0-9]+))$")
   accepted <- startsWith(text, "accepted")
   number <- function(at) if (nzchar(said[at])) as.integer(said[at]) else NA_integer_
   structure(class = "rp_checked", list(
     accepted = accepted, items = number(2), withheld = number(3), item = number(4), reason = if (accepted) NA_character_ else said[5],
-    place = number(6), line = said[1]
+    place = number(6), wide = is_wide, line = said[1]
   ))
 }
 

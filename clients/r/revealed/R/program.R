@@ -1,5 +1,6 @@
 # What answers: the program or its library, where they are, and their calls; and their wider edition, which is asked where they
-# withhold something. The other files ask by `ask`, `ask_wide`, `answers` and `wide_answers` alone.
+# withhold something, or refuse choices from budgets that it takes. The other files ask by `ask`, `ask_wide`, `ask_choices`,
+# `answers` and `wide_answers` alone.
 
 # Returns what answers: a list with the call of a library and its path, or with the path of the program.
 engine_of <- function(exe = NULL) {
@@ -132,6 +133,12 @@ is_withheld <- function(ran, command) {
   ran$status %in% 0L && !is.na(mark) && grepl(mark, ran$out, fixed = TRUE, useBytes = TRUE)
 }
 
+# Whether a call refused choices from budgets that the wider edition may take.
+is_refused <- function(ran) {
+  told <- told_refusal(ran)
+  !is.null(told) && told$fault %in% c("TooManyPatches", "TooManyCombinations", "TooManyTypes")
+}
+
 hints_of_wide <- list(
   asked = "rp-wide found no evidence either; docs/USING.md, 'When a verdict is withheld', tells what can be done",
   unasked = "rp-wide may give it: leave wide = FALSE out",
@@ -213,6 +220,16 @@ ask_wide <- function(words, files, engine, sheets = list(), wide = TRUE) {
   if (!is_switch(wide)) bad_data("wide is TRUE or FALSE")
   ran <- wide_answers(words, list(files), engine, wide)[[1]]
   list(text = text_of(ran, sheets), stated = ran$stated, hint = ran$hint)
+}
+
+# The same of words over choices from budgets: a list of the output, and of `is_wide`, whether that is the wider edition's, which is
+# asked where the program itself refuses the choices, if it is there and `wide` asks for it.
+ask_choices <- function(words, files, engine, sheets, wide, good = 0) {
+  if (!is_switch(wide)) bad_data("wide is TRUE or FALSE")
+  ran <- answer(words, files, engine)
+  other <- if (wide && is_refused(ran)) wide_engine(engine)
+  if (!is.null(other)) ran <- answer(words, files, other)
+  list(text = text_of(ran, sheets, good), is_wide = !is.null(other))
 }
 
 text_of <- function(ran, sheets, good = 0) {

@@ -1,10 +1,10 @@
 # Choices of many people from budgets.
 
-rp_random <- function(budgets, choices, per = NULL, digits = NULL, numbers = "exact", exe = NULL) {
+rp_random <- function(budgets, choices, per = NULL, digits = NULL, numbers = "exact", exe = NULL, wide = TRUE) {
   own <- choices_of(budgets, choices, per, forms_of(digits, numbers))
   words <- c("random", "budgets.csv", "choices.csv", "--json", units_of(own$per))
-  text <- ask(words, choice_files(own), engine_of(exe), list(own$budgets, own$choices))
-  read_random(own, text)
+  given <- ask_choices(words, choice_files(own), engine_of(exe), list(own$budgets, own$choices), wide)
+  read_random(own, given$text, given$is_wide)
 }
 
 rp_random_utility <- rp_random
@@ -14,18 +14,19 @@ units_of <- function(per) if (!is.null(per)) c("--per", per)
 
 choice_files <- function(own) list(budgets.csv = csv_lines(own$budgets), choices.csv = csv_lines(own$choices))
 
-read_random <- function(own, text) reading(text, {
+read_random <- function(own, text, is_wide = FALSE) reading(text, {
   items <- items_of(text, "random")
   stopifnot(length(items) == 1, identical(items[[1]]$item, "random"))
-  random_from(own, items[[1]], text)
+  random_from(own, items[[1]], text, is_wide)
 })
 
-random_from <- function(own, item, text) {
+random_from <- function(own, item, text, is_wide) {
   found <- list(
-    rational = NA, share = exact(NA), reason = NULL, parts = NULL, weights = NULL, total = item$total, certificate = text, choices = own
+    rational = NA, share = exact(NA), reason = NULL, parts = NULL, weights = NULL, total = item$total, wide = is_wide, certificate = text,
+    choices = own
   )
   if (case_of(item, c("withheld", "parts")) == "withheld") {
-    found$reason <- withheld_at(item$withheld)
+    found$reason <- if (is_wide) unfound(item$withheld) else withheld_at(item$withheld)
     return(structure(found, class = "rp_random"))
   }
   found$rational <- is.null(item$weights)
@@ -40,6 +41,13 @@ random_from <- function(own, item, text) {
   if (!found$rational) found$weights <- exact(vapply(item$weights, fraction, "", den = item$den, USE.NAMES = FALSE))
   structure(found, class = "rp_random")
 }
+
+# What is said where the wider edition ends its search.
+unfound <- function(steps) {
+  paste0("rp-wide found no evidence in ", steps, " steps of its search; fewer budgets, or coarser shares by per =, make that shorter")
+}
+
+taken_by_wide <- " (by rp-wide; rp itself refuses these choices)"
 
 # Of the types that make the choices, or as many of them as rational types can: a row for each, or one for each patch that they
 # have, with its budget and the share of that budget's choices that they make there.
@@ -78,7 +86,7 @@ print.rp_random <- function(x, ...) {
   if (is.na(x$rational)) {
     cat("random withheld:", x$reason, "\n")
   } else {
-    cat(if (x$rational) "random mixture" else paste("random violated share", bare(x$share)), "\n")
+    cat(if (x$rational) "random mixture" else paste("random violated share", bare(x$share)), if (x$wide) taken_by_wide, "\n", sep = "")
     print(as.data.frame(x)[c("patches", "share_exact")], row.names = FALSE)
   }
   invisible(x)
@@ -93,9 +101,10 @@ summary.rp_random <- function(object, ...) {
 
 # ---- patches
 
-rp_patches <- function(budgets, choices, per = NULL, digits = NULL, numbers = "exact", exe = NULL) {
+rp_patches <- function(budgets, choices, per = NULL, digits = NULL, numbers = "exact", exe = NULL, wide = TRUE) {
   own <- choices_of(budgets, choices, per, forms_of(digits, numbers))
-  text <- ask(c("patches", "budgets.csv", "choices.csv", units_of(own$per)), choice_files(own), engine_of(exe), list(own$budgets, own$choices))
+  words <- c("patches", "budgets.csv", "choices.csv", units_of(own$per))
+  text <- ask_choices(words, choice_files(own), engine_of(exe), list(own$budgets, own$choices), wide)$text
   reading(text, patches_from(own, report_of(text)))
 }
 

@@ -7,8 +7,8 @@
 Asks the program's checker whether a certificate, whoever made it, proves its verdicts on a table or on choices.
 }
 \usage{
-rp_check(data, certificate, per = NULL, levels = NULL, exe = NULL)
-rp_checkrandom(budgets, choices, certificate, per = NULL, exe = NULL)
+rp_check(data, certificate, per = NULL, levels = NULL, exe = NULL, wide = TRUE)
+rp_checkrandom(budgets, choices, certificate, per = NULL, exe = NULL, wide = TRUE)
 }
 \arguments{
 \item{data}{an answer of \code{\link{rp_test}}, \code{\link{rp_demand}}, \code{\link{rp_welfare}} or \code{\link{rp_random}};
@@ -19,10 +19,12 @@ CSV file, or two, of budgets and of choices.}
 \item{per}{the units that were asked for, for choices.}
 \item{levels}{levels of the observations, as for \code{\link{rp_test}}; a file has them in its column \code{e}.}
 \item{exe}{the program, as for \code{\link{rp_test}}.}
+\item{wide}{whether the wider edition is asked about choices that the program refuses, as for \code{\link{rp_random}}.}
 }
 \value{
 An \code{rp_checked}: \code{accepted}; and then \code{items} and how many values in them are \code{withheld}, or the first
-\code{item} that fails, with its \code{reason} and \code{place}. A certificate that is rejected is no error.
+\code{item} that fails, with its \code{reason} and \code{place}; and \code{wide}, whether the program itself refuses the data. A
+certificate that is rejected is no error.
 }
 \examples{
 if (!is.null(rp_program(must = FALSE))) {

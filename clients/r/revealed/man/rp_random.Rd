@@ -10,9 +10,10 @@ Tells whether a mixture of rational types makes the choices of many people from 
 share of them that one makes.
 }
 \usage{
-rp_random(budgets, choices, per = NULL, digits = NULL, numbers = "exact", exe = NULL)
+rp_random(budgets, choices, per = NULL, digits = NULL, numbers = "exact",
+  exe = NULL, wide = TRUE)
 rp_random_utility(budgets, choices, per = NULL, digits = NULL,
-  numbers = "exact", exe = NULL)
+  numbers = "exact", exe = NULL, wide = TRUE)
 
 \method{as.data.frame}{rp_random}(x, row.names = NULL, optional = FALSE,
   what = c("types", "patches"), ...)
@@ -25,6 +26,7 @@ a matrix that begins with the budget and ends with how many times. A budget is i
 \code{obs} of the budgets where they have that.}
 \item{per}{on how many units of each budget it is asked; else on the least with which each share is whole.}
 \item{digits, numbers, exe}{as for \code{\link{rp_test}}; the income is rounded as prices are.}
+\item{wide}{whether the wider edition is asked about choices with more patches or types than the program lists, which that refuses.}
 \item{x}{an answer.}
 \item{what}{a row for each type that makes the choices, or as much of them as rational types can; or one for each patch that these
 types have, with its budget and the share of that budget's choices that they make there.}
@@ -32,8 +34,9 @@ types have, with its budget and the share of that budget's choices that they mak
 }
 \value{
 An \code{rp_random}: \code{rational}, \code{TRUE}, \code{FALSE}, or \code{NA} where the verdict is withheld and \code{reason}
-says why; \code{share}, the greatest share; \code{parts}, the types that make it, each with its patches and its share; and,
-where \code{rational} is \code{FALSE}, \code{weights} of the patches by which each rational type weighs 1 or more.
+says why; \code{share}, the greatest share; \code{parts}, the types that make it, each with its patches and its share; where
+\code{rational} is \code{FALSE}, \code{weights} of the patches by which each rational type weighs 1 or more; and \code{wide}, whether the
+program itself refuses these choices. Shares are taken as exact: what a sample leaves to chance is not looked at.
 
 Patches are counted from 1, budget by budget, and within one by the first choice that belongs to them; \code{\link{rp_patches}} tells
 on which side of every budget each lies.

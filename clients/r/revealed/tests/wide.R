@@ -1,5 +1,5 @@
-# What the program withholds and its wider edition gives: by stand-ins that write what they are told, and by the programs that
-# are here.
+# What the program withholds or refuses and its wider edition gives: by stand-ins that write what they are told, and by the programs
+# that are here.
 library(revealed)
 source(system.file("testing", "opening.R", package = "revealed"))
 texts <- as.character
@@ -31,15 +31,33 @@ welfare <- function(low) paste0(
 cost <- function(lower) paste0("technology records 2 inputs 2 places 0 0\ncost holds\nprofit holds\nbounds prices 1 1 output 3 lower ", lower)
 trial <- function(word) paste0("trial 7 rows 3 goods 2\ngarp holds\nefficiency 1 attained yes\nhomothetic ", word, "\nquasilinear violated\n")
 
-# Writes programs that print a text for each command, in a folder; the second where there are texts for it.
-stand_ins <- function(own, wide = NULL, ends = 0) {
+# Budgets in pairs, and the choices from them, those of the first pair made so many times. On each pair the choices (2, 1) and (0, 2)
+# of the one budget, (1, 2) and (2, 0) of the other are patches: the first of each lies above the other budget, the second below it,
+# and no type has both that lie below. All that a later pair buys costs more on an earlier one than its income, and nothing of an
+# earlier pair costs as much as the income of a later one, so a type is rational where it is on each pair. Types of one mass on each
+# pair can be put together; so the greatest share is the least of those of the pairs: 3/4 where 1, 3, 2 and 2 of 4 choose, and 1 where
+# 3, 1, 3 and 1 do.
+pairs_of_budgets <- function(count, first = c(1, 3, 2, 2)) {
+  at <- rep(seq_len(count) - 1, each = 2)
+  pair <- rep(seq_len(count) - 1, each = 4)
+  list(
+    budgets = data.frame(p_x = rep(1:2, count), p_y = rep(2:1, count), w = 4 * 3^at),
+    choices = data.frame(budget = 2 * pair + c(1, 1, 2, 2), q_x = c(2, 0, 1, 2), q_y = c(1, 2, 2, 0), n = c(first, rep(c(3, 1, 3, 1), count - 1)))
+  )
+}
+
+# Writes programs that print a text for each command, in a folder; the second where there are texts for it. With a refusal the first
+# tells that alone, and ends with status 4.
+stand_ins <- function(own, wide = NULL, ends = 0, refusal = NULL) {
   folder <- file.path(tempfile("stand-ins "), "b in")
   dir.create(folder, recursive = TRUE)
   for (name in c("rp", if (!is.null(wide)) "rp-wide")) {
     says <- if (name == "rp") own else wide
     for (command in names(says)) cat(says[[command]], file = file.path(folder, paste0(name, ".", command)))
     path <- file.path(folder, name)
-    writeLines(c("#!/bin/sh", "echo \"$1\" >>\"$0.asked\"", "cat \"$0.$1\"", paste("exit", if (name == "rp") 0 else ends)), path)
+    ending <- c("cat \"$0.$1\"", paste("exit", if (name == "rp") 0 else ends))
+    if (name == "rp" && !is.null(refusal)) ending <- c(paste0("echo '", refusal, "' >&2"), "exit 4")
+    writeLines(c("#!/bin/sh", "echo \"$1\" >>\"$0.asked\"", ending), path)
     Sys.chmod(path, "755")
   }
   file.path(folder, "rp")
@@ -88,6 +106,39 @@ if (.Platform$OS.type != "windows") {
   Sys.unsetenv("RP_WIDE")
   exe <- stand_ins(list(certify = own), list(certify = ""), ends = 9)
   stopifnot(caught(rp_test(p, q, exe = exe), "rp_failed")$status == 9)
+
+  # choices that are refused
+  few <- pairs_of_budgets(1)
+  ended <- function(rest) paste0("{\"items\":[{", rest, "}],\"kind\":\"random\",\"version\":1}\n")
+  violated <- ended("\"den\":\"1\",\"item\":\"random\",\"parts\":[[[1,4],\"1\"],[[2,3],\"2\"]],\"total\":\"4\",\"weights\":[\"1\",\"0\",\"1\",\"0\"]")
+  said <- list(
+    random = violated, checkrandom = "accepted items 1 withheld 0\n", patches = "budgets 2 patches 1 total 4\npatch 1 budget 1 units 4 sides on above\n"
+  )
+  for (fault in c("TooManyTypes", "TooManyCombinations", "TooManyPatches budget 2")) {
+    exe <- stand_ins(list(), said, refusal = paste("rp:", fault))
+    r <- rp_random(few$budgets, few$choices, exe = exe)
+    stopifnot(identical(c(r$rational, r$wide), c(FALSE, TRUE)), texts(r$share) == "3/4")
+    stopifnot(capture.output(print(r))[1] == "random violated share 3/4 (by rp-wide; rp itself refuses these choices)")
+    checked <- rp_check(r, r, exe = exe)
+    stopifnot(checked$accepted, checked$wide, rp_checkrandom(few$budgets, few$choices, r, exe = exe)$wide)
+    stopifnot(identical(as.data.frame(rp_patches(few$budgets, few$choices, exe = exe))$sides, "on above"))
+    for (call in list(
+      function() rp_random(few$budgets, few$choices, exe = exe, wide = FALSE), function() rp_patches(few$budgets, few$choices, exe = exe, wide = FALSE),
+      function() rp_check(r, r, exe = exe, wide = FALSE)
+    )) {
+      wrong <- caught(call(), "rp_refused")
+      stopifnot(wrong$fault == sub(" .*", "", fault), grepl("rp-wide", wrong$hint))
+    }
+    caught(rp_random(few$budgets, few$choices, exe = exe, wide = NA), "rp_bad_data")
+  }
+  caught(rp_random(few$budgets, few$choices, exe = stand_ins(list(), refusal = "rp: TooManyTypes")), "rp_refused")
+  exe <- stand_ins(list(), list(random = ended("\"item\":\"random\",\"total\":\"4\",\"withheld\":\"68719476736\"")), refusal = "rp: TooManyTypes")
+  r <- rp_random(few$budgets, few$choices, exe = exe)
+  stopifnot(is.na(r$rational), grepl("68719476736 steps", r$reason), nrow(as.data.frame(r)) == 0)
+  exe <- stand_ins(list(), said, refusal = "rp: NeedUnit budget 2")
+  caught(rp_random(few$budgets, few$choices, exe = exe), "rp_refused")
+  exe_held <- stand_ins(list(random = violated), said)
+  stopifnot(!rp_random(few$budgets, few$choices, exe = exe_held)$wide, !file.exists(paste0(c(exe, exe_held), "-wide.asked")))
   stopifnot(revealed:::wide_places("/a/crates/rp/out/rp", windows = FALSE)[2] == "/a/crates/rp_wide/out/rp_wide")
   if (nzchar(kept)) Sys.setenv(RP_WIDE = kept)
 }
@@ -101,3 +152,16 @@ if (is.null(revealed:::wide_engine(revealed:::engine_of()))) {
 v <- rp_test(p, q)
 stopifnot(v$homothetic, identical(v$wide, "homothetic"), rp_check(v, v)$accepted, is.na(rp_test(p, q, wide = FALSE)$homothetic))
 stopifnot(identical(texts(v$evidence$homothetic$values), c("1", "7330081712811/8796093022208", "21990241643181/35184372088832")))
+
+for (count in c(8, 11, 13)) {
+  for (share in c("3/4", "1")) {
+    own <- pairs_of_budgets(count, if (share == "1") c(3, 1, 3, 1) else c(1, 3, 2, 2))
+    wrong <- caught(rp_random(own$budgets, own$choices, wide = FALSE), "rp_refused")
+    stopifnot(wrong$fault == c("TooManyTypes", "TooManyCombinations", "TooManyPatches")[match(count, c(8, 11, 13))])
+    r <- rp_random(own$budgets, own$choices)
+    stopifnot(identical(c(r$rational, r$wide), c(share == "1", TRUE)), texts(r$share) == share)
+    stopifnot(rp_check(r, r)$accepted, nrow(as.data.frame(r, what = "patches")) == 4 * count)
+    sides <- rp_patches(own$budgets, own$choices)$sides
+    stopifnot(nrow(sides) == 4 * count, identical(unname(sides[2:3, 1:2]), rbind(c("on", "below"), c("above", "on"))))
+  }
+}

@@ -24,7 +24,7 @@ returns c =
       says = c.in_ok-evidence.ensures.says;
       given = c.in_ok-evidence.ensures.run;
       accepted = subst (λ (made : Certificate). IsRandomCheckVerdict p made.items Accepted) (sym item)
-          (random_certificate_passes p c.budgets.ensures.valid types c.requires.few c.requires.all evidence c.in_ok-evidence.ensures.run);
+          (random_certificate_passes p c.budgets.ensures.valid c.requires.few_patches types c.requires.few c.requires.all evidence c.in_ok-evidence.ensures.run);
       read_back = subst (IsReadBack RandomKind) (sym item)
           (text_read_back RandomKind (random_certificate p.total evidence) (random_readable p types evidence c.budgets.ensures.valid c.in_ok-evidence.ensures.proves c.in_ok-evidence.ensures.run));
     }

@@ -56,7 +56,7 @@ returns-in_ok-patches-in-Random g c =
 pub returns-in_ok-patches-in-CheckRandom : goal.returns-in_ok-patches-in-CheckRandom
 returns-in_ok-patches-in-CheckRandom g c =
     let at = c.in_ok-patches-in-CheckRandom in
-    whole_answered (named_line c.args.line.now) g.P.Edition.printed commands.CheckRandom (contents.ChoicesAndCertificate at.patches at._types at.certificate)
+    whole_answered (named_line c.args.line.now) g.P.Edition.printed commands.CheckRandom (contents.ChoicesAndCertificate at.patches at.types at.certificate)
     c.check_random_answer.result c.whole-in-CheckRandom.result c.in-CheckRandom.is at.ensures.loads at.ensures.loads.held c.check_random_answer.ensures c.whole-in-CheckRandom.ensures
 
 pub returns-in_ok-patches-in-Patches : goal.returns-in_ok-patches-in-Patches
@@ -92,5 +92,5 @@ returns-in_ok-load_table-in-Power g c =
 pub returns-in-Trial : goal.returns-in-Trial
 returns-in-Trial g c =
     let line = named_line c.args.line.now in
-    let loads = nothing_loads g.D.Desk.bytes g.D.Desk.faults g.D.Desk.calls g.D.Desk.asked c.args.desk.now line (rw c.in-Trial.is refl) c.requires in
+    let loads = nothing_loads g.P.Edition.printed.limits g.D.Desk.bytes g.D.Desk.faults g.D.Desk.calls g.D.Desk.asked c.args.desk.now line (rw c.in-Trial.is refl) c.requires in
     text_answered line g.P.Edition.printed commands.Trial contents.Nothing c.text_of_trial.result c.done-in-Trial.result c.in-Trial.is loads loads.held c.text_of_trial.ensures c.done-in-Trial.ensures

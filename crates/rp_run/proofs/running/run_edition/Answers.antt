@@ -41,7 +41,7 @@ returns-clause-complete g c = λ line is accepted calm _.
     let before = g.D.Desk.faults c.args.desk.now in
     let after = g.D.Desk.faults c.answer_line.new.desk in
     let asks = AsksForFirst (g.D.Desk.bytes c.args.desk.now) (g.D.Desk.calls c.args.desk.now) (g.D.Desk.calls c.answer_line.new.desk) in
-    inr (rw c.refuse-in-Err.ensures.status (cause_of_accepted (g.D.Desk.bytes c.args.desk.now) before after asks (line_in c.args.words.now.items) (named_line c.in-Some.line) line c.in-Err.cause asked is accepted calm c.in-Err.ensures.caused))
+    inr (rw c.refuse-in-Err.ensures.status (cause_of_accepted g.P.Edition.printed.limits (g.D.Desk.bytes c.args.desk.now) before after asks (line_in c.args.words.now.items) (named_line c.in-Some.line) line c.in-Err.cause asked is accepted calm c.in-Err.ensures.caused))
 
 pub returns-clause-refused : goal.returns-clause-refused
 returns-clause-refused g c = λ line is _ calm.
@@ -49,7 +49,7 @@ returns-clause-refused g c = λ line is _ calm.
     let before = g.D.Desk.faults c.args.desk.now in
     let after = g.D.Desk.faults c.answer_line.new.desk in
     let asks = AsksForFirst (g.D.Desk.bytes c.args.desk.now) (g.D.Desk.calls c.args.desk.now) (g.D.Desk.calls c.answer_line.new.desk) in
-    rw c.refuse-in-Err.ensures.status (cause_of_calm (g.D.Desk.bytes c.args.desk.now) before after asks (line_in c.args.words.now.items) (named_line c.in-Some.line) line c.in-Err.cause asked is calm c.in-Err.ensures.caused)
+    rw c.refuse-in-Err.ensures.status (cause_of_calm g.P.Edition.printed.limits (g.D.Desk.bytes c.args.desk.now) before after asks (line_in c.args.words.now.items) (named_line c.in-Some.line) line c.in-Err.cause asked is calm c.in-Err.ensures.caused)
 
 pub returns-in-Ok-answer_line-clause-written : goal.returns-in-Ok-answer_line-clause-written
 returns-in-Ok-answer_line-clause-written g c =
