@@ -1,7 +1,6 @@
 -- What the program prints for its words over a long file and a file of new prices, and what these are refused for.
 use Rattle.std.specs.Prelude.{◌≡◌, ◌≢◌, ℕ, ◌<◌, ◌≤◌, ◌⊎◌, List, length, codes, Option, None, Some, Ok, Err}
 use Rattle.std.specs.Option.{ForSome}
-use Rattle.rp_bound_rows.specs.AsStated.{demand_as_stated, welfare_as_stated}
 use Rattle.rp_bound_rows.specs.declared.asked.BoundsAsked.{BoundsAsked}
 use Rattle.rp_bounds_panel.specs.BoundsText.{IsBoundsText}
 use Rattle.rp_limits.specs.declared.long.TheConstants.{BYTES}
@@ -11,7 +10,7 @@ use Rattle.rp_outside.specs.Known.{AreMoreThan}
 use Rattle.rp_long.specs.Panels.{Panel, panel_in}
 use Rattle.rp_long.specs.declared.fault.LongFault.{LongFault}
 use Rattle.rp_panel.specs.PanelText.{IsPanelText}
-use Rattle.rp_panel_run.specs.Questions.{Asking, given_by, id_name, more_asked}
+use Rattle.rp_panel_run.specs.Questions.{Asking, demand_by, given_by, id_name, more_asked, welfare_by}
 use Rattle.rp_panel_run.specs.Told.{file_line, left_out_lines, long_fault_text, unread_line}
 use Rattle.rp_panel_run.specs.declared.status.Status.{Status}
 use Rattle.rp_panel_run.specs.declared.status.Status.TheVariants as status
@@ -29,7 +28,7 @@ pub record IsPanelFile (a : Asking) (bytes : List ℕ) : Type 0 where
 -- the bytes of the file of new prices are few enough, and this is the text of the bounds at them
 pub record AreBoundsAt (a : Asking) (asked : BoundsAsked) (panel : Panel) (text new : List ℕ) : Type 0 where
   pub few : length new ≤ MOST_BYTES
-  pub is_text : IsBoundsText demand_as_stated welfare_as_stated asked new a.kept panel text
+  pub is_text : IsBoundsText (demand_by a.wide) (welfare_by a.wide) asked new a.kept panel text
 
 -- the text for a panel: that of its rows, or of the bounds that are asked at new prices, whose bytes may be known
 abbrev pub IsTextBy : Option BoundsAsked → Asking → Option (List ℕ) → Panel → List ℕ → Type 0

@@ -1,14 +1,18 @@
 -- What the words of the program ask: the long file, the name of its column of ids, the names of the columns whose texts
--- are kept, what is asked of each household beside the verdicts, and how the homothetic test is answered; or in place of
--- these two, which bounds at the new prices of another file.
+-- are kept, what is asked of each household beside the verdicts, or in place of that, which bounds at the new prices of
+-- another file; and how what is withheld is answered.
 use Rattle.std.specs.Prelude.{ℕ, ◌-◌, ◌^◌, Bool, true, false, not, ◌&&◌, ◌||◌, ◌==◌, if◌then◌else◌, List, [], ◌∷◌, ◌++◌}
 use Rattle.std.specs.Prelude.{length, drop, codes, Option, None, Some, is_some, option_and_then, option_map}
 use Rattle.std.specs.Str.{bytes_eq}
 use Rattle.rp_limits.specs.declared.command_line.TheConstants.{MOST_DRAWS}
+use Rattle.rp_evidence.specs.declared.demand.DemandPart.{DemandPart}
+use Rattle.rp_evidence.specs.declared.demand.WelfarePart.{WelfarePart}
 use Rattle.rp_evidence.specs.declared.homothetic.Homothetic.{Homothetic}
 use Rattle.rp_table.specs.Tables.{Observations}
+use Rattle.rp_bound_rows.specs.AsStated.{demand_as_stated, welfare_as_stated}
 use Rattle.rp_bound_rows.specs.declared.asked.BoundsAsked.{BoundsAsked}
 use Rattle.rp_bound_rows.specs.declared.asked.BoundsAsked.TheVariants.{Demand, Welfare}
+use Rattle.rp_bound_rows_wide.specs.FilledBounds.{IsGivenDemand, IsGivenWelfare}
 use Rattle.rp_rows.specs.Verdicts.{given_as_stated}
 use Rattle.rp_rows.specs.declared.asked.Asked.{Asked}
 use Rattle.rp_rows_wide.specs.FilledTest.{IsGivenFilled}
@@ -235,9 +239,9 @@ is_at_option wait.Draws = false
 is_at_option wait.Seed = false
 is_at_option (wait.NewPrices asked) = false
 
--- beside bounds nothing is asked of the verdicts
+-- beside bounds nothing more is asked of the verdicts
 abbrev pub go_together : Asking → Bool
-go_together a = not (is_some a.bounds) || not (a.pump || a.wide || not (a.draws == 0))
+go_together a = not (is_some a.bounds) || not (a.pump || not (a.draws == 0))
 
 -- no word is missing, and those that there are go together
 abbrev pub is_whole : Asking → Bool
@@ -266,6 +270,15 @@ files_of a = a.file ∷ new_files a.bounds a.new_prices
 abbrev pub given_by : Bool → Observations → Homothetic → Type 0
 given_by true = IsGivenFilled
 given_by false = given_as_stated
+
+-- how bounds on demand and on the money metric are found: so too
+abbrev pub demand_by : Bool → Observations → List ℕ → ℕ → DemandPart → Type 0
+demand_by true = IsGivenDemand
+demand_by false = demand_as_stated
+
+abbrev pub welfare_by : Bool → Observations → List ℕ → ℕ → WelfarePart → Type 0
+welfare_by true = IsGivenWelfare
+welfare_by false = welfare_as_stated
 
 -- what is asked of each household beside the verdicts
 abbrev pub more_asked : Asking → Asked

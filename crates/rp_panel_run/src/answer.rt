@@ -1,7 +1,6 @@
 //! The table of a long file, or its bounds at the prices of a second file, or why there is none.
 ghost use Rattle.std.specs.Prelude.{◌≡◌, ◌<◌, ◌≤◌, ◌^◌, IfErr, IfOk, Some, length};
 ghost use Rattle.std.specs.Option.{ForSome};
-ghost use Rattle.rp_bound_rows.specs.AsStated.{demand_as_stated, welfare_as_stated};
 ghost use Rattle.rp_bounds_panel.specs.BoundsText.{IsBoundsText};
 ghost use Rattle.rp_limits.specs.declared.long.TheConstants.{BYTES};
 ghost use Rattle.rp_limits.specs.declared.run.TheConstants.{MOST_BYTES};
@@ -13,12 +12,13 @@ ghost use Rattle.rp_panel_run.specs.Endings.{IsTextOfKnown};
 ghost use Rattle.rp_panel_run.specs.InnerCauses.{IsCauseOf, IsFaultCause, IsFaultOfRecords};
 ghost use Rattle.rp_panel_run.specs.InnerCauses.{IsLoadCause, IsNewCause, IsTextOfRecords, IsToldAs};
 ghost use Rattle.rp_panel_run.specs.InnerCauses.{IsToldUnread, is_memory};
-ghost use Rattle.rp_panel_run.specs.Questions.{given_by, more_asked};
+ghost use Rattle.rp_panel_run.specs.Questions.{demand_by, given_by, more_asked, welfare_by};
 ghost use Rattle.rp_panel_run.specs.Told as Told;
 
 use crate::question::Question;
 use crate::telling::{left_out_lines, line_about, long_fault_text, unread_line};
-use rp_bound_rows::{AsStated as BoundsAsStated, BoundsAsked};
+use rp_bound_rows::{AsStated as BoundsAsStated, BoundSearch, BoundsAsked};
+use rp_bound_rows_wide::Filled as BoundsFilled;
 use rp_bounds_panel::write_bounds;
 use rp_limits::long::BYTES;
 use rp_limits::run::MOST_BYTES;
@@ -220,7 +220,7 @@ fn bounds_text<D: Desk>(
     }
 }
 
-/// The text of the bounds of this panel at the prices of these bytes. Here it is chosen how bounds are found.
+/// The text of the bounds of this panel at the prices of these bytes.
 fn bounds_text_at(
     alloc: Global,
     question: &Question<'_>,
@@ -228,10 +228,27 @@ fn bounds_text_at(
     new: &[u8],
     panel: &Households<'_>,
 ) -> Result<Vec<u8>, NoMemory>
-    ensures { IfOk result (λ text. IsBoundsText demand_as_stated welfare_as_stated asked new.now
+    ensures { IfOk result (λ text. IsBoundsText (demand_by question.now.wide)
+        (welfare_by question.now.wide) asked new.now question.now.kept panel.now text.items) }
+{
+    if question.is_wide() {
+        return bounds_text_by::<BoundsFilled>(alloc, question, asked, new, panel);
+    }
+    bounds_text_by::<BoundsAsStated>(alloc, question, asked, new, panel)
+}
+
+/// The same with the bounds found so.
+fn bounds_text_by<S: BoundSearch>(
+    alloc: Global,
+    question: &Question<'_>,
+    asked: BoundsAsked,
+    new: &[u8],
+    panel: &Households<'_>,
+) -> Result<Vec<u8>, NoMemory>
+    ensures { IfOk result (λ text. IsBoundsText S.of_demand S.of_welfare asked new.now
         question.now.kept panel.now text.items) }
 {
-    write_bounds::<BoundsAsStated>(alloc, asked, new, question.kept(), panel)
+    write_bounds::<S>(alloc, asked, new, question.kept(), panel)
 }
 
 /// The text of the table of this panel.

@@ -167,7 +167,7 @@ impl<'a> Question<'a> {
         true
     }
 
-    /// Takes that more is to be found where the homothetic test is withheld.
+    /// Takes that more is to be found where the homothetic test or a bound is withheld.
     fn take_wide(&mut self) -> bool
         ensures { (if result then Some self.new else None)
             ≡ (if self.old.wide then None else Some (Questions.with_wide self.old)) }
@@ -284,14 +284,14 @@ impl<'a> Question<'a> {
         }
     }
 
-    /// Whether nothing is asked of the verdicts beside bounds.
+    /// Whether nothing more is asked of the verdicts beside bounds.
     fn go_together(&self) -> bool
         ensures { result ≡ go_together self.now }
     {
         if self.bounds.is_none() {
             return true;
         }
-        !self.pump && !self.wide && self.draws == 0
+        !self.pump && self.draws == 0
     }
 
     /// The name of the long file.
@@ -345,7 +345,7 @@ impl<'a> Question<'a> {
         self.kept.as_slice()
     }
 
-    /// Whether more is to be found where the homothetic test is withheld.
+    /// Whether more is to be found where the homothetic test or a bound is withheld.
     pub(crate) fn is_wide(&self) -> bool
         ensures { result ≡ self.now.wide }
     {

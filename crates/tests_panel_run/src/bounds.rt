@@ -97,6 +97,32 @@ fn new_prices_with_a_fault(rt: HostRuntime) -> Result<(), Fail> {
     writes(rt.alloc(), ASKED, empty, (DEMAND_HEADER, lines), "")
 }
 
+/// A household whose programs for bounds on demand pass their width, what is stated of it, and what is found. The demands
+/// that keep the axiom when 10,000,000 is spent at these prices are those of which the first observation cannot have been
+/// preferred, so at least 20,000,002 at its prices.
+const WITHHELD: (&str, &str) = (
+    "household,p_a,q_a,p_b,q_b,p_c,q_c\n\
+    A,9999999,2,1,2,1,2\nA,1,1,9999991,1,1,1\nA,1,1,1,1,9999973,1\n",
+    "p_a,p_b,p_c,m\n1,1,1,10000000\n",
+);
+
+const STATED: &str = "A,3,3,1,a,withheld,,10000000,10000000.000000,,,\n\
+    A,3,3,1,b,withheld,,withheld,,,,\nA,3,3,1,c,withheld,,withheld,,,,\n";
+
+const FILLED: &str = "A,3,3,1,a,5000001/4999999,1.000000,10000000,10000000.000000,,,\n\
+    A,3,3,1,b,0,0.000000,49999984999999/4999999,9999999.000000,,,\n\
+    A,3,3,1,c,0,0.000000,49999984999999/4999999,9999999.000000,,,\n";
+
+#[test]
+fn what_is_withheld_is_filled_where_that_is_asked(rt: HostRuntime) -> Result<(), Fail> {
+    let alloc = rt.alloc();
+    writes(alloc, ASKED, WITHHELD, (DEMAND_HEADER, STATED), "")?;
+    let before = &["l.csv", "--wide", "--demand", "n.csv"];
+    writes(alloc, before, WITHHELD, (DEMAND_HEADER, FILLED), "")?;
+    let after = &["l.csv", "--demand", "n.csv", "--wide"];
+    writes(alloc, after, WITHHELD, (DEMAND_HEADER, FILLED), "")
+}
+
 /// The two names may be the same.
 #[test]
 fn a_file_beside_itself(rt: HostRuntime) -> Result<(), Fail> {

@@ -7,7 +7,7 @@ use std::process::Abort;
 use std::test::Fail;
 
 /// What stands in a room before the call.
-const BEFORE: u8 = b'.';
+pub(crate) const BEFORE: u8 = b'.';
 
 /// A call: its words and the names of its files, each ended by a zero byte, and the texts of the files.
 #[derive(Clone, Copy)]
@@ -74,7 +74,7 @@ fn made(alloc: Global, call: &Call<'_>, room: usize) -> Result<Given, Fail> {
 }
 
 /// Whether a room has a text at its front, as much of it as has place, and behind it what stood there before.
-fn has_text(room: &[u8], length: u64, text: &str) -> bool {
+pub(crate) fn has_text(room: &[u8], length: u64, text: &str) -> bool {
     let count = text.len().min(room.len());
     let is_kept = length == text.len() as u64 && room[..count] == text.as_bytes()[..count];
     for byte in &room[count..] {

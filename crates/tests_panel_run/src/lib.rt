@@ -1,5 +1,5 @@
-//! Tests of `run_panel` and of the call of panels: words, files that are refused or fail, columns that are left out, what
-//! `--wide` fills, bounds at new prices, and each ending.
+//! Tests of `run_panel` and of the calls of panels: words and the files that they name, files that are refused or fail,
+//! columns that are left out, what `--wide` fills, bounds at new prices, and each ending.
 #![tactic(auto)]
 
 #[cfg(test)]
@@ -8,6 +8,8 @@ mod bounds;
 mod calls;
 #[cfg(test)]
 mod files;
+#[cfg(test)]
+mod names;
 #[cfg(test)]
 mod running;
 #[cfg(test)]

@@ -41,8 +41,7 @@ const REFUSED: &[&[&str]] = &[
     &["l.csv", "--demand", "n.csv", "--pump"],
     &["l.csv", "--power", "1", "1", "--welfare", "n.csv"],
     &["l.csv", "--welfare", "n.csv", "--power", "1", "1"],
-    &["l.csv", "--wide", "--demand", "n.csv"],
-    &["l.csv", "--demand", "n.csv", "--wide"],
+    &["l.csv", "--wide", "--demand", "n.csv", "--wide"],
 ];
 
 /// A household whose two purchases contradict each other: each bundle cost 5 where the other would have cost 4.

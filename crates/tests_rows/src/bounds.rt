@@ -1,5 +1,5 @@
 //! The rows of bounds of long files.
-use rp_bound_rows::{AsStated, BoundsAsked};
+use rp_bound_rows::{AsStated, BoundSearch, BoundsAsked};
 use rp_bounds_panel::write_bounds;
 use rp_long::{read_long_records, read_panel};
 use std::alloc::Global;
@@ -83,7 +83,7 @@ const WELFARES: &[Case] = &[(
 )];
 
 /// The rows of bounds of a long file.
-fn bounds_of(
+pub(crate) fn bounds_of<S: BoundSearch>(
     alloc: Global,
     asked: BoundsAsked,
     file: &str,
@@ -92,7 +92,7 @@ fn bounds_of(
 ) -> Result<Vec<u8>, Fail> {
     let records = read_long_records(alloc, file.as_bytes())?;
     let panel = read_panel(alloc, &records, b"household", kept)?;
-    Ok(write_bounds::<AsStated>(alloc, asked, new.as_bytes(), kept, &panel)?)
+    Ok(write_bounds::<S>(alloc, asked, new.as_bytes(), kept, &panel)?)
 }
 
 /// A long file and new prices have these rows.
@@ -104,7 +104,7 @@ fn check_bounds(
     case: &Case,
 ) -> Result<(), Fail> {
     let (file, new, lines) = *case;
-    let found = bounds_of(alloc, asked, file, new, &[])?;
+    let found = bounds_of::<AsStated>(alloc, asked, file, new, &[])?;
     let wanted = format!(in alloc; "{header}{lines}")?;
     assert!(rt; found.as_slice() == wanted.as_bytes(), "{file}{new}");
     Ok(())
@@ -145,7 +145,7 @@ fn bounds_on_the_money_metric(rt: HostRuntime) -> Result<(), Fail> {
 fn kept_columns(rt: HostRuntime) -> Result<(), Fail> {
     let alloc = rt.alloc();
     let file = "household,p_a,q_a,where\nA,3,2,\"north, east\"\n,3,2,west\n";
-    let found = bounds_of(
+    let found = bounds_of::<AsStated>(
         alloc,
         BoundsAsked::Demand,
         file,

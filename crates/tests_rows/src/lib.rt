@@ -10,3 +10,5 @@ mod panels;
 mod rows;
 #[cfg(test)]
 mod wide;
+#[cfg(test)]
+mod wide_bounds;
