@@ -305,7 +305,8 @@ class Built(unittest.TestCase):
                 self.assertEqual(caught.exception.fault, fault)
                 verdict = revealed.random(budgets, choices)
                 self.assertEqual((verdict.rational, verdict.share, verdict.wide), (share == 1, share, True), count)
-                self.assertEqual(len(verdict.patches), 4 * count)
+                if share == 1:
+                    self.assertEqual([it.share for it in verdict.patches], [Fraction(3, 4), Fraction(1, 4)] * 2 * count)
                 found = revealed.verify(verdict)
                 self.assertTrue(found.proved == 1 and not found.remarks, found)
                 checked = revealed.check(verdict, verdict)

@@ -160,7 +160,9 @@ for (count in c(8, 11, 13)) {
     stopifnot(wrong$fault == c("TooManyTypes", "TooManyCombinations", "TooManyPatches")[match(count, c(8, 11, 13))])
     r <- rp_random(own$budgets, own$choices)
     stopifnot(identical(c(r$rational, r$wide), c(share == "1", TRUE)), texts(r$share) == share)
-    stopifnot(rp_check(r, r)$accepted, nrow(as.data.frame(r, what = "patches")) == 4 * count)
+    stopifnot(rp_check(r, r)$accepted)
+    made <- as.data.frame(r, what = "patches")
+    if (share == "1") stopifnot(identical(texts(made$share_exact), rep(c("3/4", "1/4"), 2 * count)))
     sides <- rp_patches(own$budgets, own$choices)$sides
     stopifnot(nrow(sides) == 4 * count, identical(unname(sides[2:3, 1:2]), rbind(c("on", "below"), c("above", "on"))))
   }
