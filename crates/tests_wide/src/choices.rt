@@ -66,17 +66,29 @@ fn certificate_of_fan(alloc: Global, n: u32) -> Result<String, AllocError>
     Ok(text)
 }
 
+/// What the wider edition writes over these budgets, choices and certificate.
+fn written_over(
+    alloc: Global,
+    words: &[&str],
+    budgets: &str,
+    choices: &str,
+    certificate: &str,
+) -> Result<String, Fail> {
+    let files = &[
+        ("b.csv", budgets),
+        ("c.csv", choices),
+        ("v.json", certificate),
+    ];
+    Ok(run_wide_over(alloc, words, files)?.out)
+}
+
 /// What the wider edition writes over a fan, choices of each good alone, and this certificate.
 fn over_fan(alloc: Global, words: &[&str], n: u32, certificate: &str) -> Result<String, Fail>
     requires { n ≤ 48 }
 {
     let (budgets, choices) = (fan(alloc, n)?, corners(alloc, n, true)?);
-    let files = &[
-        ("b.csv", budgets.as_str()),
-        ("c.csv", choices.as_str()),
-        ("v.json", certificate),
-    ];
-    Ok(run_wide_over(alloc, words, files)?.out)
+    let (budgets, choices) = (budgets.as_str(), choices.as_str());
+    written_over(alloc, words, budgets, choices, certificate)
 }
 
 /// 21 budgets have 2^21 combinations, 25 have 50 patches, and 48 have 96.
