@@ -146,12 +146,12 @@ rp_call *revealed_inside(int which) {
 """
 
 
-def r(entries, one_file, parts, notice, proved, when, archive, program):
+def r(entries, one_file, parts, notice, proved, when, archive, programs):
     """Returns the source package of R by its name, of the files of a release, with the library as C inside, and its vignette where
-    LaTeX is here: the program answers what the vignette asks, so that nothing is compiled for it."""
+    LaTeX is here: the programs, by their names, answer what the vignette asks, so that nothing is compiled for it."""
     top = "clients/r/revealed/"
     own = {name.removeprefix(top): data for name, (data, _) in entries.items() if name.startswith(top)}
-    own = built_by_r(own, when, program) or own
+    own = built_by_r(own, when, programs) or own
     own |= {f"src/onefile/{name}": one_file[name].encode() for name in ("rp.c", "rp.h")}
     own |= {f"src/part{it}.c": R_PART.format(part=it).encode() for it in range(parts + 1)}
     own["src/Makevars"] = (R_MAKEVARS + "".join(R_RULE.format(part=it) for it in range(parts + 1))).encode()
@@ -161,7 +161,7 @@ def r(entries, one_file, parts, notice, proved, when, archive, program):
     return {f"revealed_{version}.tar.gz": archive({name: (data, False) for name, data in own.items()}, "revealed", when)}
 
 
-def built_by_r(files, when, program):
+def built_by_r(files, when, programs):
     """Returns the files as `R CMD build` leaves them, where R is here; what it tells of the time and the user is of the release."""
     if not shutil.which("R"):
         return None
@@ -173,9 +173,10 @@ def built_by_r(files, when, program):
             os.makedirs(os.path.dirname(f"{room}/revealed/{name}"), exist_ok=True)
             with open(f"{room}/revealed/{name}", "wb") as it:
                 it.write(data)
-        with open(f"{room}/rp", "wb") as it:
-            it.write(program)
-        os.chmod(f"{room}/rp", 0o755)
+        for name, data in programs.items():
+            with open(f"{room}/{name}", "wb") as it:
+                it.write(data)
+            os.chmod(f"{room}/{name}", 0o755)
         env = {**os.environ, "RP_EXEC": f"{room}/rp", "RP_LIBRARY": "", "LC_ALL": "C.UTF-8", "TZ": "UTC"}
         env |= {"SOURCE_DATE_EPOCH": str(when), "FORCE_SOURCE_DATE": "1"}
         words = ["R", "CMD", "build", *([] if has_latex else ["--no-build-vignettes"]), "revealed"]
