@@ -3,6 +3,7 @@
 //! only where the checker takes it.
 #![tactic(auto)]
 
+mod compatible;
 mod generated_verdict;
 mod lightest;
 mod parts;

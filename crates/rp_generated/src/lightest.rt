@@ -1,9 +1,11 @@
 //! The search for light rational types, depth first over the budgets, the lightest patch of each first. A partial type
-//! is left where it has a violation, and where it cannot get lighter than the lightest type so far.
-ghost use Rattle.std.specs.Prelude.{◌≡◌, ◌<◌, ◌≤◌, false};
+//! is left where it has a violation, and where it cannot get lighter than the lightest type so far by patches which make
+//! no violation with one of its own.
+ghost use Rattle.std.specs.Prelude.{◌≡◌, ◌<◌, ◌≤◌, ◌+◌, IfSome, false};
 ghost use Rattle.rp_limits.specs.declared.generated.TheConstants.{STEPS};
 ghost use Rattle.rp_patch.specs.PartialTypes.{IsPartialType};
 
+use crate::compatible::{Compatible, PatchSet};
 use crate::prices::Prices;
 use rp_limits::generated::STEPS;
 use rp_limits::table::BUDGETS;
@@ -12,12 +14,12 @@ use rp_patch::Patches;
 use rp_patch::partial_type::PartialType;
 use std::alloc::Global;
 
-/// The most steps that all searches of a run make, half of those that may be made: the check looks once more through
-/// what the last of them looked through.
+/// The most steps that all searches of a run make, half of those that may be made: the check looks once more for a
+/// type that is too light.
 pub(crate) const SEARCH_STEPS: u64 = STEPS / 2;
 
 /// The types that were found, each lighter than the one before it; what the last of them weighs, or else what was asked
-/// to be passed below; and how many partial types all searches of the run went through.
+/// to be passed below; and how many patches all searches of the run looked at for a partial type.
 #[derive(Drop)]
 pub(crate) struct Lightest {
     pub(crate) weight: u128,
@@ -34,7 +36,7 @@ impl Lightest {
         self.steps >= SEARCH_STEPS
     }
 
-    /// Counts one partial type more, where a step is left.
+    /// Counts one patch more, where a step is left.
     fn count(&mut self) {
         if !self.is_given_up() {
             self.steps += 1;
@@ -49,32 +51,85 @@ impl Lightest {
     }
 }
 
-/// Looks through the types that begin with a partial type, which weighs so much.
+/// A partial type, what it weighs, and the patches which make no violation with one of its own.
+#[derive(Drop)]
+struct Begun {
+    partial: PartialType,
+    weight: u128,
+    fit: PatchSet,
+}
+
+impl Begun {
+    /// No patch taken yet.
+    fn new(patches: &Patches) -> Begun
+        ensures { IsPartialType patches.now result.partial }
+    {
+        Begun {
+            partial: PartialType::new(patches),
+            weight: 0,
+            fit: PatchSet::all(),
+        }
+    }
+
+    /// It with a patch of the next budget; none where no rational type that begins so weighs less than this.
+    fn with(
+        &self,
+        patches: &Patches,
+        prices: &Prices,
+        compatible: &Compatible,
+        i: u32,
+        below: u128,
+    ) -> Option<Begun>
+        requires { IsPartialType patches.now self.now.partial }
+        ensures part { IfSome result (λ begun. IsPartialType patches.now begun.partial) }
+        ensures taken { IfSome result (λ begun.
+            begun.partial.taken ≡ self.now.partial.taken + 1) }
+    {
+        if i >= patches.count() || !self.fit.has(i) {
+            return None;
+        }
+        let weight = self.weight.wrapping_add(prices.of(i));
+        let fit = compatible.among(&self.fit, i);
+        let to_come = prices.least_after(self.partial.taken, &fit)?;
+        if weight.wrapping_add(to_come) >= below {
+            return None;
+        }
+        let partial = self.partial.with(patches, i)?;
+        Some(Begun {
+            partial,
+            weight,
+            fit,
+        })
+    }
+}
+
+/// Looks through the types that begin with a partial type.
 fn seek(
     alloc: Global,
     patches: &Patches,
     prices: &Prices,
-    partial: &PartialType,
-    weight: u128,
+    compatible: &Compatible,
+    begun: &Begun,
     lightest: &mut Lightest,
 ) -> Result<(), NoMemory>
-    requires { IsPartialType patches.now partial.now }
+    requires { IsPartialType patches.now begun.now.partial }
 {
     prove!(patches.budgets() <= BUDGETS);
-    if partial.taken == patches.budgets() {
-        return lightest.take(alloc, partial.patches(), weight);
+    let taken = begun.partial.taken;
+    if taken == patches.budgets() {
+        return lightest.take(alloc, begun.partial.patches(), begun.weight);
     }
-    let to_come = prices.after(partial.taken);
-    for i in prices.on(partial.taken) {
-        let longer = weight.wrapping_add(prices.of(*i));
-        if lightest.is_given_up() || longer.wrapping_add(to_come) >= lightest.weight {
+    let Some(to_come) = prices.least_after(taken, &begun.fit) else {
+        return Ok(());
+    };
+    for i in prices.on(taken) {
+        let weight = begun.weight.wrapping_add(prices.of(*i));
+        if lightest.is_given_up() || weight.wrapping_add(to_come) >= lightest.weight {
             return Ok(());
         }
-        if *i < patches.count()
-            && let Some(next) = partial.with(patches, *i)
-        {
-            lightest.count();
-            seek(alloc, patches, prices, &next, longer, lightest)?;
+        lightest.count();
+        if let Some(longer) = begun.with(patches, prices, compatible, *i, lightest.weight) {
+            seek(alloc, patches, prices, compatible, &longer, lightest)?;
         }
     }
     Ok(())
@@ -85,6 +140,7 @@ pub(crate) fn light_types(
     alloc: Global,
     patches: &Patches,
     prices: &Prices,
+    compatible: &Compatible,
     below: u128,
     steps: u64,
 ) -> Result<Lightest, NoMemory>
@@ -95,7 +151,7 @@ pub(crate) fn light_types(
         types: Vec::new(alloc),
         steps,
     };
-    let none = PartialType::new(patches);
-    seek(alloc, patches, prices, &none, 0, &mut lightest)?;
+    let none = Begun::new(patches);
+    seek(alloc, patches, prices, compatible, &none, &mut lightest)?;
     Ok(lightest)
 }

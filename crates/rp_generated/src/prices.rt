@@ -1,17 +1,17 @@
 //! Prices of the patches, as a search over rational types asks for them.
 ghost use Rattle.std.specs.Prelude.{◌≤◌, length};
 
+use crate::compatible::PatchSet;
 use rp_num::NoMemory;
 use rp_patch::Patches;
 use std::alloc::Global;
 
-/// Prices of the patches; the patches of each budget, the lightest first; and what the lightest patches of all budgets
-/// after each one weigh together.
+/// Prices of the patches; and the patches of each budget, the lightest first.
 #[derive(Drop)]
 pub(crate) struct Prices {
     prices: Vec<u64>,
     on_budget: Vec<Vec<u32>>,
-    to_come: Vec<u128>,
+    budgets: u32,
 }
 
 /// The price of a patch.
@@ -51,19 +51,6 @@ fn patches_on(
     Ok(list)
 }
 
-/// What the lightest patches of all budgets after budget `d` weigh together.
-fn least_after(prices: &[u64], on_budget: &[Vec<u32>], d: usize) -> u128 {
-    let mut least: u128 = 0;
-    for j in 0..on_budget.len() {
-        if j > d
-            && let Some(i) = on_budget[j].first()
-        {
-            least = least.wrapping_add(u128::from(price_at(prices, *i)));
-        }
-    }
-    least
-}
-
 impl Prices {
     /// These prices of the patches.
     pub(crate) fn make(
@@ -75,14 +62,10 @@ impl Prices {
         for j in 0..patches.budgets() {
             on_budget.push(patches_on(alloc, patches, prices.as_slice(), j)?)?;
         }
-        let mut to_come = Vec::new(alloc);
-        for d in 0..on_budget.len() {
-            to_come.push(least_after(prices.as_slice(), on_budget.as_slice(), d))?;
-        }
         Ok(Prices {
             prices,
             on_budget,
-            to_come,
+            budgets: patches.budgets(),
         })
     }
 
@@ -99,11 +82,23 @@ impl Prices {
         }
     }
 
-    /// What the lightest patches of all budgets after this one weigh together.
-    pub(crate) fn after(&self, budget: u32) -> u128 {
-        match self.to_come.get(budget as usize) {
-            Some(least) => *least,
-            None => 0,
+    /// What the lightest patch of a budget in a set weighs; none where none is in it.
+    fn least_on(&self, budget: u32, set: &PatchSet) -> Option<u128> {
+        for i in self.on(budget) {
+            if set.has(*i) {
+                return Some(self.of(*i));
+            }
         }
+        None
+    }
+
+    /// What the lightest patches in a set of all budgets after this one weigh together; none where none is in it of one
+    /// of these budgets.
+    pub(crate) fn least_after(&self, budget: u32, set: &PatchSet) -> Option<u128> {
+        let mut least: u128 = 0;
+        for j in budget.wrapping_add(1)..self.budgets {
+            least = least.wrapping_add(self.least_on(j, set)?);
+        }
+        Some(least)
     }
 }

@@ -3,6 +3,7 @@
 ghost use Rattle.std.specs.Prelude.{◌≤◌};
 ghost use Rattle.rp_limits.specs.declared.generated.TheConstants.{STEPS};
 
+use crate::compatible::Compatible;
 use crate::lightest::{Lightest, light_types};
 use crate::parts::{mixture, violation};
 use crate::prices::Prices;
@@ -60,6 +61,7 @@ fn add_all(alloc: Global, program: &mut Grown, types: &[Vec<u32>]) -> Result<(),
 fn found_by(
     alloc: Global,
     patches: &Patches,
+    compatible: &Compatible,
     program: &Grown,
     steps: u64,
 ) -> Result<Option<Lightest>, NoMemory>
@@ -69,11 +71,12 @@ fn found_by(
         return Ok(None);
     };
     let den = program.den();
-    Ok(Some(light_types(alloc, patches, &prices, den, steps)?))
+    Ok(Some(light_types(alloc, patches, &prices, compatible, den, steps)?))
 }
 
 /// The rounds.
 pub(crate) fn rounds(alloc: Global, patches: &Patches) -> Result<Found, NoMemory> {
+    let compatible = Compatible::make(alloc, patches)?;
     let mut program = first_program(alloc, patches)?;
     let mut steps = 0;
     for _ in 0..MOST_ROUNDS {
@@ -84,7 +87,7 @@ pub(crate) fn rounds(alloc: Global, patches: &Patches) -> Result<Found, NoMemory
             let part = mixture(alloc, &program)?;
             return Ok(Found { part, steps });
         }
-        let Some(light) = found_by(alloc, patches, &program, steps)? else {
+        let Some(light) = found_by(alloc, patches, &compatible, &program, steps)? else {
             return Ok(Found { part: None, steps });
         };
         steps = light.steps;

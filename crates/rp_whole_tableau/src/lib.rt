@@ -4,6 +4,7 @@
 
 mod bound;
 mod choice;
+mod divisor;
 mod grown;
 mod grown_readout;
 mod pivot;
