@@ -70,24 +70,32 @@ def is_rational(patches, chosen):
     return not walks.has_violation(weak, strict)
 
 
+def go_together(patches, one, other):
+    """Whether two patches of two budgets make no violation by themselves."""
+    (j, own), (k, its) = patches.list[one], patches.list[other]
+    return own[k] > 0 or its[j] > 0 or own[k] == its[j] == 0
+
+
 def is_one_lighter(patches, weights, den):
     """Whether some rational type weighs less than this. A beginning is left where it has a violation, which all that follows has
-    too, and where it weighs as much with the lightest patch of each budget that is to come."""
-    on = [patches.on(budget) for budget in patches.budgets]
-    to_come = [0]
-    for numbers in reversed(on):
-        to_come.insert(0, to_come[0] + min((weights[number] for number in numbers), default=0))
+    too, and where it weighs as much with the lightest patch of each budget that is to come, of those that go together with
+    each that is taken."""
+    every = range(len(patches.list))
+    together = [{other for other in every if go_together(patches, number, other)} for number in every]
 
-    def follows(begun, weight):
-        if len(begun) == len(on):
+    def follows(begun, weight, left):
+        if not left:
             return True
-        for number in on[len(begun)]:
+        for number in left[0]:
             longer, heavier = (*begun, number), weight + weights[number]
-            if heavier + to_come[len(longer)] < den and is_rational(patches, longer) and follows(longer, heavier):
+            rest = [[it for it in numbers if it in together[number]] for numbers in left[1:]]
+            if not all(rest) or heavier + sum(min(weights[it] for it in numbers) for numbers in rest) >= den:
+                continue
+            if is_rational(patches, longer) and follows(longer, heavier, rest):
                 return True
         return False
 
-    return follows((), 0)
+    return follows((), 0, [patches.on(budget) for budget in patches.budgets])
 
 
 def look(patches, item):
