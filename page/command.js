@@ -63,7 +63,8 @@ export function commandForm(client, examples) {
   return [
     say(
       `The words are those of the program, after its name: ${commands().map((it) => it.usage).join("; ")}. With ` +
-        "rp-wide in front of them its wider edition answers, which seeks what rp withholds.",
+        "rp-wide in front of them its wider edition answers, which seeks what rp withholds, and takes choices with " +
+        "more patches or types.",
     ),
     make("div", { className: "row" }, labelled("Files:", chooser)),
     list,

@@ -13,7 +13,7 @@ export const WIDE_MEANS =
 /** What the same mark means of choices that `rp` itself refuses. */
 export const REFUSED_MEANS =
   `${WIDE} marks what is said of choices that rp itself refuses, since they have more patches or types than it ` +
-  "lists. The wider edition, rp-wide, found evidence, which its checker takes; the verdict is as true.";
+  "lists. The wider edition, rp-wide, takes them: a verdict has evidence, which its checker takes, and is as true.";
 
 /** What is said above a report: by which edition it is; `stated` is there where it is the wider one's. */
 export const reportBy = (stated) => `The report, as ${stated ? "rp-wide" : "the program"} prints it`;
