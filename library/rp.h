@@ -69,8 +69,8 @@ int32_t rp_answer(
 
 /*
  * Answers the words of a command line as `rp-wide` does: what `rp_answer` would withhold is given wherever evidence of
- * it is found past the numbers that it keeps; all else is the same. Arguments, ownership, threads and statuses are those
- * of `rp_answer`.
+ * it is found past the numbers that it keeps, and choices from budgets are taken that it refuses for their patches or
+ * types, up to 256 patches; all else is the same. Arguments, ownership, threads and statuses are those of `rp_answer`.
  */
 int32_t rp_answer_wide(
     const uint8_t *words, size_t words_length,
