@@ -1,4 +1,4 @@
-*! version 0.16.0  rptest: revealed preference tests by the program rp
+*! version 0.17.0  rptest: revealed preference tests by the program rp
 program define rptest, rclass sortpreserve
     version 13
     syntax [if] [in], Prices(varlist numeric) Quantities(varlist numeric) [BY(varlist) LEVels(varname numeric) OBS(varname) DIGITS(numlist integer max=2 >=0 <=6) PUMP POWer(integer 0) SEED(integer 1) NEWprices(numlist >0) MONEY(numlist >0 max=1) EXE(string) NOWIDE GENerate(name) SAVing(string)]

@@ -121,4 +121,4 @@ __all__ = [
     "welfare",
     "welfare_bounds",
 ]
-__version__ = "0.16.0"
+__version__ = "0.17.0"

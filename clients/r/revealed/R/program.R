@@ -68,7 +68,7 @@ usual_places <- function(windows = on_windows()) {
   file.path(c(if (!windows) own, unpacked), program_name(windows))
 }
 
-# Returns where a release is unpacked, in a folder such as rp-0.16.0-x86_64-linux.
+# Returns where a release is unpacked, in a folder such as rp-0.17.0-x86_64-linux.
 usual_roots <- function(windows = on_windows()) {
   if (windows) {
     user <- gsub("\\", "/", Sys.getenv(c("USERPROFILE", "HOME", "ProgramFiles", "LOCALAPPDATA"), ""), fixed = TRUE)

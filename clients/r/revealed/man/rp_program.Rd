@@ -6,13 +6,13 @@ Finds what answers: the program \code{rp}, or its library \code{librp}, which an
 files. The argument decides, then the environment variable \code{RP_LIBRARY}, which names a library, then \code{RP_EXEC}, which
 names a program. Else the program is looked for on the path, and then where a release or a package of it is put:
 \file{~/.local/bin}, \file{~/bin}, \file{/usr/local/bin}, \file{/usr/bin}, \file{/usr/local/lib/rp}, and a folder such as
-\file{rp-0.16.0-x86_64-linux} in the home folder, its \file{.local} or \file{Downloads}, \file{/opt} or \file{/usr/local} (the last
+\file{rp-0.17.0-x86_64-linux} in the home folder, its \file{.local} or \file{Downloads}, \file{/opt} or \file{/usr/local} (the last
 version that is there). The library that stands with it is taken in its place: in the folder \file{lib} of a release, or in the
 \file{lib} beside its \file{bin}. A library without a program is found in \file{~/.local/lib}, \file{/usr/local/lib} and
 \file{/usr/lib}. Where there is none of all these, the error says where it was looked for.
 
 On Windows, where this was not tried, the program is \file{rp.exe} and the library \file{rp.dll} beside it, in a folder such as
-\file{rp-0.16.0-x86_64-windows} in the user's folder, its \file{Downloads} or \file{Desktop}, \file{C:/Program Files} or \file{C:/};
+\file{rp-0.17.0-x86_64-windows} in the user's folder, its \file{Downloads} or \file{Desktop}, \file{C:/Program Files} or \file{C:/};
 the program is started without a shell, and a panel is answered by one process.
 }
 \usage{

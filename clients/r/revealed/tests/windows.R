@@ -3,7 +3,7 @@
 library(revealed)
 own <- asNamespace("revealed")
 home <- file.path(tempdir(), "a user")
-release <- file.path(home, "Downloads", "rp-0.16.0-x86_64-windows")
+release <- file.path(home, "Downloads", "rp-0.17.0-x86_64-windows")
 dir.create(release, recursive = TRUE)
 older <- file.path(home, "rp-0.9.0-x86_64-windows", "rp-0.9.0-x86_64-windows")
 dir.create(older, recursive = TRUE)
