@@ -1,5 +1,5 @@
 -- What the checker takes on random choices fits, and its certificate can be read back, however it was found.
-use Rattle.std.proofs.Common.{◌≡◌, ◌<◌, ℕ, List, [], Ok, All, Contains, inl, refl, get_or, arith}
+use Rattle.std.proofs.Common.{◌≡◌, ℕ, List, [], Ok, All, Contains, inl, refl, get_or, arith}
 use Rattle.std.proofs.lemmas.List.{get_or_default}
 use Rattle.std.proofs.lemmas.List.Elements.{Contains-get_or}
 use Rattle.rp_check_mixture.specs.RandomWithin.{RandomFailsWithin}

@@ -69,11 +69,6 @@ only_accepted_within p items steps (Rejected item reason place) holds (k, within
     absurd (item_excludes p steps (record { reason = reason; place = place }) (slice_index_or items k any_item) (holds k within any_item) (found any_item))
 
 -- what passes within so many steps passes without a limit
-pub passes_without_limit : (p : PatchList) (steps total : ℕ) (part : RandomPart) → RandomFailsWithin p total part steps (Ok tt) → RandomFails p total part (Ok tt)
-passes_without_limit p steps total (Mixture den parts) passes = passes
-passes_without_limit p steps total (Violated den parts weights) (same, ((fit, (kinds, (one_each, (units, (few, rest))))), done)) = (same, ((fit, (kinds, (one_each, (units, rest)))), done))
-passes_without_limit p steps total (Wide step) passes = passes
-
 pub item_passes_without_limit : (p : PatchList) (steps : ℕ) (item : Item) → ItemFailsOnPatchesWithin p item steps (Ok tt) → ItemFailsOnPatches p item (Ok tt)
 item_passes_without_limit p steps (GarpItem verdict) passes = passes
 item_passes_without_limit p steps (AfriatItem part) passes = passes
@@ -82,4 +77,4 @@ item_passes_without_limit p steps (HomotheticItem verdict) passes = passes
 item_passes_without_limit p steps (QuasiItem verdict) passes = passes
 item_passes_without_limit p steps (DemandItem prices m part) passes = passes
 item_passes_without_limit p steps (WelfareItem prices of part) passes = passes
-item_passes_without_limit p steps (RandomItem total part) passes = passes_without_limit p steps total part passes
+item_passes_without_limit p steps (RandomItem total part) passes = without p total part steps passes

@@ -1,13 +1,13 @@
 //! Which patches go together in a rational type, two by two.
 ghost use Rattle.std.specs.Prelude.{◌<◌, length};
 
-use rp_limits::patch::PLACES;
+use rp_limits::generated::PATCHES;
 use rp_num::NoMemory;
 use rp_patch::Patches;
 use std::alloc::Global;
 
 /// The words of a set, of 64 patches each.
-const WORDS: usize = PLACES as usize / 64;
+const WORDS: usize = PATCHES as usize / 64;
 
 /// A set of patches, a bit for each.
 #[derive(Clone, Copy)]

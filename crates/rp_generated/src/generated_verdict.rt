@@ -33,29 +33,32 @@ fn has_verdict(part: &RandomPart) -> bool
     }
 }
 
-/// Whether the checker finds nothing wrong with evidence.
-fn is_taken(patches: &Patches, part: &RandomPart) -> bool
+/// Whether the checker finds nothing wrong with evidence in the steps that are left.
+fn is_taken(patches: &Patches, part: &RandomPart, left: u64) -> bool
+    requires { left ≤ STEPS }
     ensures { result ≡ true
         → RandomFailsWithin patches.now patches.now.total part.now STEPS (Ok tt) }
 {
-    is_nothing(check_choices_within(patches, patches.total(), part, STEPS))
+    is_nothing(check_choices_within(patches, patches.total(), part, left))
 }
 
-/// The evidence where the checker takes it, and else that the verdict is withheld after so many steps.
+/// The evidence where the checker takes it in the steps that are left after so many, and else that the verdict is
+/// withheld after these.
 fn if_taken(patches: &Patches, found: Option<RandomPart>, steps: u64) -> RandomPart
     requires { steps ≤ STEPS }
     ensures accepted { RandomFailsWithin patches.now patches.now.total result STEPS (Ok tt) }
     ensures steps { WithheldAt result (λ step. step ≤ STEPS) }
 {
     match found {
-        Some(part) if has_verdict(&part) && is_taken(patches, &part) => part,
+        Some(part) if has_verdict(&part) && is_taken(patches, &part, STEPS - steps) => part,
         _ => RandomPart::Wide { step: steps },
     }
 }
 
 /// Whether some mixture of rational types makes the choices, by types that are generated: a mixture; a partial one of
-/// the greatest share with weights of the patches; or, where neither is found, how many steps the search made. All
-/// rational types are meant, however many there are, and what is given says of persons what it does where all are listed.
+/// the greatest share with weights of the patches; or, where neither is found, how many steps the search made, at most
+/// those of `rp_limits`. All rational types are meant, however many there are, and what is given says of persons what it
+/// does where all are listed.
 pub fn generated(alloc: Global, patches: &Patches) -> Result<RandomPart, NoMemory>
     ensures proves { IfOk result (ProvesRandom patches.now patches.now.total) }
     ensures share { IfOk result (ShowsShare patches.now) }

@@ -1,5 +1,5 @@
 //! The search for light rational types, depth first over the budgets, the lightest patch of each first. A partial type
-//! is left where it has a violation, and where it cannot get lighter than the lightest type so far by patches which make
+//! is left where it has a violation, and where it cannot get lighter than the lightest type so far by patches that make
 //! no violation with one of its own.
 ghost use Rattle.std.specs.Prelude.{◌≡◌, ◌<◌, ◌≤◌, ◌+◌, IfSome, false};
 ghost use Rattle.rp_limits.specs.declared.generated.TheConstants.{STEPS};
@@ -15,7 +15,7 @@ use rp_patch::partial_type::PartialType;
 use std::alloc::Global;
 
 /// The most steps that all searches of a run make, half of those that may be made: the check looks once more for a
-/// type that is too light.
+/// type that is too light, in the steps that are left.
 pub(crate) const SEARCH_STEPS: u64 = STEPS / 2;
 
 /// The types that were found, each lighter than the one before it; what the last of them weighs, or else what was asked

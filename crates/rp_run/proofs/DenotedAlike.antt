@@ -1,5 +1,5 @@
 -- What files denote where all types of choices have to be listed they denote where they have not.
-use Rattle.std.proofs.Common.{◌≡◌, ℕ, Bool, Some, None, Option, List, Ok, arith}
+use Rattle.std.proofs.Common.{ℕ, Bool, Some, None, Option, List, Ok, arith}
 use Rattle.rp_answers.specs.declared.choice_limits.ChoiceLimits.TheVariants.{Listed, Unlisted}
 use Rattle.rp_command_line.specs.CommandLine.{Arguments, Line, file_set, takes_levels}
 use Rattle.rp_command_line.specs.declared.commands.FileSet.{FileSet}

@@ -35,8 +35,8 @@ pub(crate) fn answer_line<'a, P: Edition, D: Desk>(
 ) -> Result<Answer, Cause<'a>>
     requires { IsSized (named_line line.now) }
     ensures { LoadsLine P.printed.limits D.bytes D.faults D.calls D.asked
-        desk.old desk.new (named_line line.now) (λ answer. AnswersLineBy P.printed (D.bytes desk.old) (named_line line.now)
-        answer.status answer.text.items) result }
+        desk.old desk.new (named_line line.now) (λ answer. AnswersLineBy P.printed
+        (D.bytes desk.old) (named_line line.now) answer.status answer.text.items) result }
 {
     match line.command {
         Command::Pairs => done(pairs_text(alloc, &load_table::<P, D>(alloc, desk, line)?)),

@@ -1,5 +1,5 @@
-//! What the files of a line hold, for each set of files, by the limits of an edition of the program. They are read in the
-//! order of the words, each whole before the next.
+//! What the files of a line hold, for each set of files, by the limits of an edition of the program. They are read in
+//! the order of the words, each whole before the next.
 ghost use Rattle.std.specs.Prelude.{◌≡◌, IfOk};
 ghost use Rattle.rp_answers.specs.DemandText.{IsSpentOn};
 ghost use Rattle.rp_answers.specs.Typed.{AreTypedIfListed};
@@ -60,7 +60,8 @@ pub(crate) fn load_table_certificate<'a, P: Edition, D: Desk>(
     requires files { file_set (named_line line.now) ≡ files.TableAndCertificate }
     ensures loads { LoadsLine P.printed.limits D.bytes D.faults D.calls D.asked
         desk.old desk.new (named_line line.now) (λ both. HasContentsBy P.printed.limits
-        (D.bytes desk.old) (named_line line.now) (contents.TableAndCertificate both.0 both.1)) result }
+        (D.bytes desk.old) (named_line line.now)
+        (contents.TableAndCertificate both.0 both.1)) result }
     ensures kind { IfOk result (λ both. IsCertificateOf TableKind both.1) }
 {
     let table = load_line_table(alloc, desk, line)?;
@@ -78,8 +79,10 @@ pub(crate) fn load_table_prices_with_expenditure<'a, P: Edition, D: Desk>(
     requires files { file_set (named_line line.now) ≡ files.TableAndPricesWithExpenditure }
     ensures loads { LoadsLine P.printed.limits D.bytes D.faults D.calls D.asked
         desk.old desk.new (named_line line.now) (λ both. HasContentsBy P.printed.limits
-        (D.bytes desk.old) (named_line line.now) (contents.TableAndPricesWithExpenditure both.0 both.1)) result }
-    ensures levels { IfOk result (λ both. MayHaveLevels (takes_levels (named_line line.now)) both.0) }
+        (D.bytes desk.old) (named_line line.now)
+        (contents.TableAndPricesWithExpenditure both.0 both.1)) result }
+    ensures levels { IfOk result (λ both.
+        MayHaveLevels (takes_levels (named_line line.now)) both.0) }
     ensures spent { IfOk result (λ both. IsSpentOn both.0 both.1) }
 {
     let table = load_line_table(alloc, desk, line)?;
@@ -102,7 +105,8 @@ pub(crate) fn load_table_prices<'a, P: Edition, D: Desk>(
     ensures loads { LoadsLine P.printed.limits D.bytes D.faults D.calls D.asked
         desk.old desk.new (named_line line.now) (λ both. HasContentsBy P.printed.limits
         (D.bytes desk.old) (named_line line.now) (contents.TableAndPrices both.0 both.1)) result }
-    ensures levels { IfOk result (λ both. MayHaveLevels (takes_levels (named_line line.now)) both.0) }
+    ensures levels { IfOk result (λ both.
+        MayHaveLevels (takes_levels (named_line line.now)) both.0) }
     ensures goods { IfOk result (λ both. both.1.goods ≡ goods_of both.0) }
 {
     let table = load_line_table(alloc, desk, line)?;
@@ -160,7 +164,8 @@ pub(crate) fn load_patches_certificate<'a, P: Edition, D: Desk>(
     requires files { file_set (named_line line.now) ≡ files.ChoicesAndCertificate }
     ensures loads { LoadsLine P.printed.limits D.bytes D.faults D.calls D.asked
         desk.old desk.new (named_line line.now) (λ all. HasContentsBy P.printed.limits
-        (D.bytes desk.old) (named_line line.now) (contents.ChoicesAndCertificate all.0 all.1 all.2)) result }
+        (D.bytes desk.old) (named_line line.now)
+        (contents.ChoicesAndCertificate all.0 all.1 all.2)) result }
     ensures kind { IfOk result (λ all. IsCertificateOf RandomKind all.2) }
 {
     let budgets = load_numbers(alloc, desk, line.arguments.file(0), &BudgetsFile)?;
@@ -198,7 +203,8 @@ pub(crate) fn load_technology_asked<'a, P: Edition, D: Desk>(
     requires files { file_set (named_line line.now) ≡ files.TechnologyAndAsked }
     ensures loads { LoadsLine P.printed.limits D.bytes D.faults D.calls D.asked
         desk.old desk.new (named_line line.now) (λ both. HasContentsBy P.printed.limits
-        (D.bytes desk.old) (named_line line.now) (contents.TechnologyAndAsked both.0 both.1)) result }
+        (D.bytes desk.old) (named_line line.now)
+        (contents.TechnologyAndAsked both.0 both.1)) result }
     ensures goods { IfOk result (λ both. both.1.prices.goods ≡ goods_of both.0.table) }
 {
     let tech = load_numbers(alloc, desk, line.arguments.file(0), &TechFile)?;

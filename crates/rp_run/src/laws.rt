@@ -13,11 +13,11 @@ ghost use Rattle.rp_run.specs.ChosenInFiles.{AreOfChoicesIn};
 ghost use Rattle.rp_run.specs.Contents.{Contents, ContentsInBy, DenotesBy, HasNumbersAlone};
 ghost use Rattle.rp_run.specs.Contents as contents;
 
-/// The bytes of a line's files denote at most one content or one refusal by the limits of choices: no two contents, no two
-/// lines of a refusal, and never both. So what is answered over known files is decided by them. Where the files hold numbers alone (tables, new
-/// prices, bundles, technologies) they denote one of the two, whatever their bytes are, and that a table with a
-/// certificate denotes neither is impossible. That choices and menus denote one is no law here: `run` finds what they
-/// denote, unless memory runs out.
+/// The bytes of a line's files denote at most one content or one refusal by the limits of choices: no two contents, no
+/// two lines of a refusal, and never both. So what is answered over known files is decided by them. Where the files hold
+/// numbers alone (tables, new prices, bundles, technologies) they denote one of the two, whatever their bytes are, and
+/// that a table with a certificate denotes neither is impossible. That choices and menus denote one is no law here:
+/// `run` finds what they denote, unless memory runs out.
 pub fn bytes_denote_one_input_or_refusal()
     ensures at_most_one { (limits : Limits) (line : Asked) (bytes : ℕ → List ℕ)
         (one other : Result Contents (List ℕ))
@@ -30,8 +30,8 @@ pub fn bytes_denote_one_input_or_refusal()
         → ¬ ((one : Result Contents (List ℕ)) → ¬ DenotesBy limits line bytes one) }
 {}
 
-/// Patches that files denote are those of choices in these files, of which no bundle is empty: so what an item says of all
-/// choices that have the patches (`SaysOfChoices`) it says of the choices in the files.
+/// Patches that files denote are those of choices in these files, of which no bundle is empty: so what an item says of
+/// all choices that have the patches (`SaysOfChoices`) it says of the choices in the files.
 pub fn patches_are_of_choices_in_files()
     ensures choices { (limits : Limits) (takes : Bool) (arguments : Arguments)
         (known : ℕ → Option (List ℕ)) (p : PatchList) (types : Option (List Rational))

@@ -41,4 +41,5 @@ returns c =
       accepted = subst (λ (made : Certificate). IsRandomCheckVerdictWithin p made.items STEPS Accepted) (sym item) (one_passes p evidence found.accepted);
       read_back = subst (IsReadBack RandomKind) (sym item)
           (text_read_back RandomKind (random_certificate p.total evidence) (checked_readable p c.budgets.ensures.valid STEPS evidence found.proves found.accepted long));
+      steps = found.steps;
     }
