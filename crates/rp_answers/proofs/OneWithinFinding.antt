@@ -3,6 +3,7 @@ use Rattle.std.proofs.Common.{◌≡◌, ℕ, List, Ok, Err, inl, inr, refl, sli
 use Rattle.rp_check.specs.RandomCheckWithin.{IsRandomCheckVerdictWithin, ItemFailsOnPatchesWithin}
 use Rattle.rp_check.specs.declared.verdict.Verdict.{Verdict}
 use Rattle.rp_check.specs.declared.verdict.Verdict.TheVariants.{Accepted, Rejected}
+use Rattle.rp_check_mixture.proofs.InParts.{without}
 use Rattle.rp_check_mixture.proofs.OneFinding.{evidence_excludes}
 use Rattle.rp_check_mixture.specs.RandomWithin.{RandomFailsWithin, RandomPartFailsWithin, ViolationFailsWithin}
 use Rattle.rp_evidence.specs.declared.certificate.Item.{Item}
@@ -14,7 +15,7 @@ use Rattle.rp_evidence.specs.declared.random.Share.{Share}
 use Rattle.rp_patch.specs.KindFailure.{PartFailsOf, PartsFailOf}
 use Rattle.rp_patch.specs.Mixtures.{types_on}
 use Rattle.rp_patch.specs.Patches.{PatchList}
-use Rattle.rp_patch.specs.RandomFailure.{ItemFailsOnPatches, RandomFails}
+use Rattle.rp_patch.specs.RandomFailure.{ItemFailsOnPatches}
 
 any_item : Item
 any_item = RandomItem 0 (Wide 0)
