@@ -129,7 +129,7 @@ def sources_sum():
     for crate in sorted(crates):
         found.update(f"{crates[crate]}\n".encode())
         for at, folders, names in os.walk(f"{TOP}/crates/{crate}"):
-            folders[:] = sorted(it for it in folders if it not in ("out", "must-fail", "data"))
+            folders[:] = sorted(it for it in folders if it not in ("out", "must-fail", "planted", "data"))
             for name in sorted(it for it in names if it.endswith((".rt", ".antt"))):
                 found.update(f"{os.path.relpath(at, TOP)}/{name}\0".encode() + bytes_of(f"{at}/{name}") + b"\0")
     for file in (f"{kit()}/KIT-ID", os.path.realpath(__file__)):
