@@ -1,40 +1,58 @@
 //! The walk that made a product less last, followed back.
+use crate::classes::first_of;
 use crate::rounds::Best;
 use rp_clauses::input::Input;
 use rp_num::{Frac, NoMemory};
 use std::alloc::Global;
 
-/// The observation before `s` on the walk that made its product less last; `s` itself where there is none.
-fn before(best: &[Best], s: u32) -> u32 {
+/// The step that made the product of the class of `s` less last, to an observation of the class; from `s` to itself
+/// where there is none.
+fn step_to(best: &[Best], s: u32) -> (u32, u32) {
     match best.get(s as usize) {
-        Some(found) => found.from,
-        None => s,
+        Some(found) => (found.from, found.to),
+        None => (s, s),
     }
 }
 
-/// An observation that so many steps back from `s` lead to as there are observations: it lies on a closed walk of last
-/// improvements.
-fn far_before(best: &[Best], s: u32) -> u32 {
-    let mut at = s;
+/// The first observation of the class before that of `s` on the walk that made its product less.
+fn before(best: &[Best], firsts: &[u32], s: u32) -> u32 {
+    first_of(firsts, step_to(best, s).0)
+}
+
+/// The first observation of a class that so many steps back from `s` lead to as there are observations: it lies on a
+/// closed walk of last improvements.
+fn far_before(best: &[Best], firsts: &[u32], s: u32) -> u32 {
+    let mut at = first_of(firsts, s);
     for _ in 0..best.len() {
-        at = before(best, at);
+        at = before(best, firsts, at);
     }
     at
 }
 
-/// The walk of last improvements from `at` back to it, in the order in which it goes.
-fn walk_back(alloc: Global, best: &[Best], at: u32) -> Result<Vec<u32>, NoMemory> {
+/// Adds an observation to a walk that ends with another.
+fn go_to(walk: &mut Vec<u32>, s: u32) -> Result<(), NoMemory> {
+    if walk.as_slice().last() != Some(&s) {
+        walk.push(s)?;
+    }
+    Ok(())
+}
+
+/// The walk of last improvements from `at`, the first of its class, back to it, in the order in which it goes. Within a
+/// class it goes by the first observation.
+fn walk_back(alloc: Global, best: &[Best], firsts: &[u32], at: u32) -> Result<Vec<u32>, NoMemory> {
     let mut walk = Vec::new(alloc);
     walk.push(at)?;
-    let mut s = before(best, at);
+    let mut s = at;
     for _ in 0..best.len() {
+        let (from, to) = step_to(best, s);
+        s = first_of(firsts, from);
+        go_to(&mut walk, to)?;
+        go_to(&mut walk, from)?;
+        go_to(&mut walk, s)?;
         if s == at {
             break;
         }
-        walk.push(s)?;
-        s = before(best, s);
     }
-    walk.push(at)?;
     walk.reverse();
     Ok(walk)
 }
@@ -48,8 +66,18 @@ fn first_from(best: &[Best], round: u32) -> u32 {
 }
 
 /// A closed walk of the last improvements, from one that the round made.
-pub fn closed_walk(alloc: Global, best: &[Best], round: u32) -> Result<Vec<u32>, NoMemory> {
-    walk_back(alloc, best, far_before(best, first_from(best, round)))
+pub fn closed_walk(
+    alloc: Global,
+    best: &[Best],
+    firsts: &[u32],
+    round: u32,
+) -> Result<Vec<u32>, NoMemory> {
+    walk_back(
+        alloc,
+        best,
+        firsts,
+        far_before(best, firsts, first_from(best, round)),
+    )
 }
 
 /// The product over the first half of a walk's steps, or none where it passes the width or the walk leaves the table.

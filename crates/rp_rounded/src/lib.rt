@@ -2,6 +2,7 @@
 //! their width. Whatever is found is given only where the checker finds nothing wrong with it.
 #![tactic(auto)]
 
+mod classes;
 mod evidence;
 mod last_improvements;
 mod leading;
