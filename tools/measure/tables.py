@@ -68,6 +68,11 @@ class AxiomTable:
         return True
 
 
+def is_tied(prices, bundle, p, q):
+    """Answers whether the steps between two observations make the product 1, so that one's level fixes the other's."""
+    return cost(prices, q) * cost(p, bundle) == cost(prices, bundle) * cost(p, q)
+
+
 class HomotheticTable:
     """A table that the levels of a homothetic utility rationalize: none is above another times a step's quotient."""
 
@@ -77,6 +82,10 @@ class HomotheticTable:
     def take(self, prices, bundle, level):
         own = cost(prices, bundle)
         for (p, q), other in zip(self.records, self.levels):
+            if is_tied(prices, bundle, p, q):
+                if abs(level * cost(p, q) - other * cost(p, bundle)) > APART * other * cost(p, bundle):
+                    return False
+                continue
             if level * cost(p, q) * (1 + APART) > other * cost(p, bundle):
                 return False
             if other * own * (1 + APART) > level * cost(prices, q):
@@ -94,6 +103,24 @@ def drawn(table, consumer, observations, tries=TRIES):
         table.take(prices, bundle, consumer.level(bundle))
         if len(table.records) == observations:
             return table.records
+    return None
+
+
+def tied(table, consumer, observations, by, tries=TRIES):
+    """Fills a homothetic table, its second half with observations at the prices of earlier ones, or with multiples of their bundles; returns
+    its records in a drawn order, or None where too many purchases broke it."""
+    first = drawn(table, consumer, observations - observations // 2, tries)
+    for _ in range(tries if first else 0):
+        if len(table.records) == observations:
+            return consumer.draw.sample(table.records, observations)
+        s = consumer.draw.randrange(observations - observations // 2)
+        (p, q), level = table.records[s], table.levels[s]
+        if by == "same prices":
+            bundle = consumer.bundle(p)
+            table.take(p, bundle, level * cost(p, bundle) / cost(p, q))
+        else:
+            times = consumer.draw.choice([2, 3])
+            table.take(consumer.prices(), [times * it for it in q], times * level)
     return None
 
 
