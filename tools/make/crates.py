@@ -20,7 +20,7 @@ from shared import TOP
 PARTS = ["Numbers and files", "Definitions and laws", "Searches", "Checker", "Texts", "Top", "Tests"]
 HEAD = re.compile(r"# (\w+)\n\n((?:[^#\n].*\n)+)\n\*([\w ]+)\*\.(?:\s+Proved:\s+((?:.+\n)+?))?(?:\n|\Z)")
 # The tables that are drawn: the document, and the row with which its table begins.
-README, ARCHITECTURE = ("README.md", "| crate | what is proved of it |"), ("docs/ARCHITECTURE.md", "| crate | what it has |")
+README, ARCHITECTURE = ("README.md", "| crate | what is proved of it |"), ("docs/dev/ARCHITECTURE.md", "| crate | what it has |")
 
 
 class Unread(Exception):
@@ -94,7 +94,7 @@ def drawn(text):
 
 
 def resting_on_inner(text):
-    """Yields the specs that rest on words for the inner functions of a crate, and are not for these themselves (docs/ARCHITECTURE.md)."""
+    """Yields the specs that rest on words for the inner functions of a crate, and are not for these themselves (docs/dev/ARCHITECTURE.md)."""
     for file in sorted(glob.glob("crates/*/specs/**/*.antt", root_dir=TOP, recursive=True)):
         inner = re.search(r"\bspecs\.(Inner\w+)", text(file))
         if inner and not os.path.basename(file).startswith("Inner"):
