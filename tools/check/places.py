@@ -96,7 +96,7 @@ def of_documents(facts):
     digits = all_of(r"^\| (\d+) \|")
     is_fault = all_of(rf"`(?:rp: (?:[\w.]+: )?)?({CAMEL})\b")
     lines = {it: rf"`{it}\b" for it in facts["lines"]}
-    yield Place("README.md", "commands", rows, row)
+    yield Place("docs/reference/README.md", "commands", rows, row)
     yield Place("docs/reference/files.md", "commands", rows, row)
     yield Place("docs/reference/files.md", "usage", {it["name"]: rf"^(?:usage:|      ) rp {quoted(it['usage'])}$" for it in commands},
                 all_of(r"^(?:usage:|      ) rp (\w+)"), r"^usage: rp .*?^\$")  # fmt: skip
