@@ -73,8 +73,8 @@ def of_manual(text):
 
 
 def of_sources(text):
-    """Yields papers of CITATION.cff that docs/DEFINITIONS.md has not among its sources, or at another place."""
-    plain = " ".join(re.sub(r"[*_]", "", text("docs/DEFINITIONS.md")).split())
+    """Yields papers of CITATION.cff that docs/dev/DEFINITIONS.md has not among its sources, or at another place."""
+    plain = " ".join(re.sub(r"[*_]", "", text("docs/dev/DEFINITIONS.md")).split())
     entries = re.split(r"(?m)^  - type: ", text("CITATION.cff").partition("references:\n")[2])[1:]
     if not entries:
         yield "CITATION.cff has no references"
@@ -85,7 +85,7 @@ def of_sources(text):
         family = re.search(r"family-names: (.*)", entry)[1]
         source = re.search(rf"{re.escape(family)}, (?:(?!\(\d{{4}}\)).)*\({year}\)\. {re.escape(title)}.*?(?= - |$)", plain)
         if not source:
-            yield f"docs/DEFINITIONS.md has no source {family} ({year}), {title}"
+            yield f"docs/dev/DEFINITIONS.md has no source {family} ({year}), {title}"
         elif journal and f"{journal} {volume}, {start}–{end}" not in source[0]:
             yield f"{family} ({year}): its place differs in the two files"
 

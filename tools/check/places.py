@@ -96,30 +96,30 @@ def of_documents(facts):
     digits = all_of(r"^\| (\d+) \|")
     is_fault = all_of(rf"`(?:rp: (?:[\w.]+: )?)?({CAMEL})\b")
     lines = {it: rf"`{it}\b" for it in facts["lines"]}
-    yield Place("README.md", "commands", rows, row)
-    yield Place("docs/FORMATS.md", "commands", rows, row)
-    yield Place("docs/FORMATS.md", "usage", {it["name"]: rf"^(?:usage:|      ) rp {quoted(it['usage'])}$" for it in commands},
+    yield Place("docs/reference/README.md", "commands", rows, row)
+    yield Place("docs/reference/files.md", "commands", rows, row)
+    yield Place("docs/reference/files.md", "usage", {it["name"]: rf"^(?:usage:|      ) rp {quoted(it['usage'])}$" for it in commands},
                 all_of(r"^(?:usage:|      ) rp (\w+)"), r"^usage: rp .*?^\$")  # fmt: skip
-    yield Place("docs/FORMATS.md", "faults", told, lambda own: set(is_fault(own)) - set(reasons), made_up="UnheardOf")
+    yield Place("docs/reference/files.md", "faults", told, lambda own: set(is_fault(own)) - set(reasons), made_up="UnheardOf")
     unsaid = [it["name"] for it in facts["limits"] if it["name"] not in {*FORMATS_LIMITS, *INNER}]
-    yield Place("docs/FORMATS.md", "limits", {**said(facts, FORMATS_LIMITS), **{it: NEVER for it in unsaid}})
-    yield Place("docs/FORMATS.md", "statuses", numbers, digits, r"^\| status \|.*?^$", "99")
-    yield Place("docs/FORMATS.md", "reasons", {it: rf"`{it}\b" for it in reasons}, lambda own: all_of(r"`([A-Z][a-z]\w*)\b")(own),
+    yield Place("docs/reference/files.md", "limits", {**said(facts, FORMATS_LIMITS), **{it: NEVER for it in unsaid}})
+    yield Place("docs/reference/files.md", "statuses", numbers, digits, r"^\| status \|.*?^$", "99")
+    yield Place("docs/reference/files.md", "reasons", {it: rf"`{it}\b" for it in reasons}, lambda own: all_of(r"`([A-Z][a-z]\w*)\b")(own),
                 r"^## The checker's order.*", "UnheardOf")  # fmt: skip
-    yield Place("docs/FORMATS.md", "items of certificates", {it: rf'"item":"{it}"' for it in facts["certificates"]["tags"]},
+    yield Place("docs/reference/files.md", "items of certificates", {it: rf'"item":"{it}"' for it in facts["certificates"]["tags"]},
                 all_of(r'"item":"(\w+)"'))  # fmt: skip
-    yield Place("docs/FORMATS.md", "kinds of certificates", {it: rf'"kind":"{it}"|is\s+`"{it}"`' for it in facts["certificates"]["kinds"]})
-    yield Place("docs/FORMATS.md", "words of verdicts", words)
-    yield Place("docs/FORMATS.md", "lines of reports", lines)
-    yield Place("docs/FORMATS.md", "columns", columns)
+    yield Place("docs/reference/files.md", "kinds of certificates", {it: rf'"kind":"{it}"|is\s+`"{it}"`' for it in facts["certificates"]["kinds"]})
+    yield Place("docs/reference/files.md", "words of verdicts", words)
+    yield Place("docs/reference/files.md", "lines of reports", lines)
+    yield Place("docs/reference/files.md", "columns", columns)
     yield Place("docs/USING.md", "sessions", {it: rf"^\$ \./rp {it} " for it in names})
     yield Place("docs/USING.md", "verdicts", {it: rf"^\| `{it}` \|" for it in [*facts["verdicts"], "efficiency", "pump"]},
                 all_of(r"^\| `(\w+)` \|"), r"^\| verdict \| what it means.*?^$")  # fmt: skip
     yield Place("docs/USING.md", "statuses", numbers, lambda own: set(digits(own)) - {OF_THE_SCRIPT}, r"^\| status \| for a script.*?^$", "99")
     yield Place("docs/USING.md", "limits", said(facts, USING_LIMITS))
     yield Place("docs/USING.md", "faults", {}, lambda own: set(all_of(r"^\| `([A-Z]\w+)`?")(own)) - set(faults), r"^\| you see \|.*?^$", "UnheardOf")
-    yield Place("docs/REFEREES.md", "reasons", {it: rf"^\| `{it}` \|" for it in reasons}, all_of(r"^\| `(\w+)` \|"), r"^\| reason \|.*?^$", "UnheardOf")
-    yield Place("docs/REFEREES.md", "items of certificates", {it: rf'`"{it}"`' for it in facts["certificates"]["tags"]})
+    yield Place("docs/howto/referee.md", "reasons", {it: rf"^\| `{it}` \|" for it in reasons}, all_of(r"^\| `(\w+)` \|"), r"^\| reason \|.*?^$", "UnheardOf")
+    yield Place("docs/howto/referee.md", "items of certificates", {it: rf'`"{it}"`' for it in facts["certificates"]["tags"]})
 
 
 def of_release(facts):

@@ -1,4 +1,4 @@
-"""The crates as their README.md tell them, and the tables of README and ARCHITECTURE that are drawn from these.
+"""The crates as their README.md describe them, and the two tables of ARCHITECTURE that are made from these descriptions.
 
 The README of a crate begins with its name; then comes what it has, in one paragraph, and the part of the suite that it belongs to
 with what is proved of it in short, where it has something to prove:
@@ -9,7 +9,7 @@ with what is proved of it in short, where it has something to prove:
 
     *Numbers and files*. Proved: rows in one raw block that is used within bounds.
 
-README has what is proved, where crates of which the same is said share a row; ARCHITECTURE has what each has, part by part.
+One table has what each crate has, part by part. The other has what is proved, where crates with the same sentence share a row.
 """
 import glob
 import os
@@ -20,7 +20,8 @@ from shared import TOP
 PARTS = ["Numbers and files", "Definitions and laws", "Searches", "Checker", "Texts", "Top", "Tests"]
 HEAD = re.compile(r"# (\w+)\n\n((?:[^#\n].*\n)+)\n\*([\w ]+)\*\.(?:\s+Proved:\s+((?:.+\n)+?))?(?:\n|\Z)")
 # The tables that are drawn: the document, and the row with which its table begins.
-README, ARCHITECTURE = ("README.md", "| crate | what is proved of it |"), ("docs/ARCHITECTURE.md", "| crate | what it has |")
+ARCHITECTURE = "docs/dev/ARCHITECTURE.md"
+PROVED, HAS = (ARCHITECTURE, "| crate | what is proved of it |"), (ARCHITECTURE, "| crate | what it has |")
 
 
 class Unread(Exception):
@@ -60,7 +61,7 @@ def read(text):
 
 
 def rows_of_proved(crates):
-    """Returns the rows of README: crates of which the same is proved share one, where the first of them stands."""
+    """Returns the rows of what is proved: crates with the same sentence share one, at the place of the first of them."""
     rows = {}
     for it in sorted(crates, key=lambda one: PARTS.index(one.part)):
         if it.proved:
@@ -69,7 +70,7 @@ def rows_of_proved(crates):
 
 
 def rows_of_parts(crates):
-    """Returns the rows of ARCHITECTURE: the crates of each part under its name."""
+    """Returns the rows of what each crate has, under the names of the parts."""
     rows = []
     for part in PARTS:
         rows.append(f"| **{part}** | |")
@@ -88,13 +89,14 @@ def with_table(text, place, rows):
 
 
 def drawn(text):
-    """Returns the documents with the tables of crates as they are to be, by their names."""
+    """Returns the documents with the tables of crates as they should be, by their names."""
     crates = read(text)
-    return {place[0]: with_table(text(place[0]), place, rows(crates)) for place, rows in ((README, rows_of_proved), (ARCHITECTURE, rows_of_parts))}
+    own = with_table(text(ARCHITECTURE), PROVED, rows_of_proved(crates))
+    return {ARCHITECTURE: with_table(own, HAS, rows_of_parts(crates))}
 
 
 def resting_on_inner(text):
-    """Yields the specs that rest on words for the inner functions of a crate, and are not for these themselves (docs/ARCHITECTURE.md)."""
+    """Yields the specs that rest on words for the inner functions of a crate, and are not for these themselves (docs/dev/ARCHITECTURE.md)."""
     for file in sorted(glob.glob("crates/*/specs/**/*.antt", root_dir=TOP, recursive=True)):
         inner = re.search(r"\bspecs\.(Inner\w+)", text(file))
         if inner and not os.path.basename(file).startswith("Inner"):

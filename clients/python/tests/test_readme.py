@@ -34,12 +34,12 @@ class Lines(unittest.TestCase):
         self.runs(revealed.__doc__, "revealed")
         self.runs(revealed.plain.__doc__, "revealed.plain")
 
-    @unittest.skipUnless((HERE / "../../docs/REFEREES.md").exists(), "the repository is not here")
+    @unittest.skipUnless((HERE / "../../docs/howto/referee.md").exists(), "the repository is not here")
     def test_referees(self):
         before = os.getcwd()
         os.chdir(HERE / "../..")
         try:
-            self.runs((HERE / "../../docs/REFEREES.md").read_text(encoding="utf-8"), "REFEREES.md")
+            self.runs((HERE / "../../docs/howto/referee.md").read_text(encoding="utf-8"), "referee.md")
         finally:
             os.chdir(before)
 

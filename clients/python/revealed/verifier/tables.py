@@ -1,4 +1,4 @@
-"""What a CSV file says: a table, budgets with choices, menus, a technology and what is asked of it (docs/FORMATS.md).
+"""What a CSV file says: a table, budgets with choices, menus, a technology and what is asked of it (docs/reference/files.md).
 
 Numbers are made whole as the format says: prices by one power of ten, quantities by another. After that all is exact.
 """

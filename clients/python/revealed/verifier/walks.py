@@ -1,4 +1,4 @@
-"""Steps between observations, walks, and violations (docs/DEFINITIONS.md; Varian 1982).
+"""Steps between observations, walks, and violations (docs/dev/DEFINITIONS.md; Varian 1982).
 
 A relation is a list of sets: the set at s has every t to which there is a step from s. All numbers are from 0 here.
 A level e is one for all observations; without one (None), each has its own where the table has levels, and else 1.
