@@ -19,7 +19,7 @@ use Rattle.rp_people.specs.Fractions.{SignedFraction}
 use Rattle.rp_people.specs.Rationalizing.{HasConcaveUtility, Rationalizes}
 use Rattle.rp_people.specs.Utilities.{preference_of}
 use Rattle.rp_people.proofs.Affine.{IsAffine}
-use Rattle.rp_people.proofs.Differences.{IsDifference, at_most_by, at_most_on, at_most_parts, at_most_test, at_most_times, by_itself, equal_by, is_times, less_is, of_whole, sum_is, times_is}
+use Rattle.rp_people.proofs.Differences.{IsDifference, at_most_by, at_most_on, at_most_parts, at_most_times, by_itself, equal_by, is_times, less_is, of_whole, sum_is, times_is}
 use Rattle.rp_people.proofs.Minima.{IsLeastOf, concave_utility, least_utility}
 
 -- ---- the utility of numbers
@@ -66,10 +66,9 @@ module _ (choices : Choices) (are : AreChoices choices) (u : ℕ → ℤ) (m : �
         let y = choices.bundle s in
         let below = at_most_times (utility x).num (pos x.den *ℤ u s) y.den (affords_at_most utility is s x l ix affordable) in
         let above = at_most_times (pos y.den *ℤ u s) (utility y).num x.den (chosen_at_least utility is s l) in
-        at_most_test ((utility x).num *ℤ pos (utility y).den) ((utility y).num *ℤ pos (utility x).den)
-        (subst (λ d. ((utility x).num *ℤ pos (utility y).den) ≤ℤ ((utility y).num *ℤ pos d)) (sym (is.over x ix))
+        subst (λ d. ((utility x).num *ℤ pos (utility y).den) ≤ℤ ((utility y).num *ℤ pos d)) (sym (is.over x ix))
         (subst (λ d. ((utility x).num *ℤ pos d) ≤ℤ ((utility y).num *ℤ pos x.den)) (sym (is.over y (are.bundles s l)))
-        (at_most_on _ _ _ below (subst (λ v. v ≤ℤ ((utility y).num *ℤ pos x.den)) (turned (u s) y.den x.den) above))))
+        (at_most_on _ _ _ below (subst (λ v. v ≤ℤ ((utility y).num *ℤ pos x.den)) (turned (u s) y.den x.den) above)))
       where
         turned : (z : ℤ) (d e : ℕ) → (pos d *ℤ z) *ℤ pos e ≡ (pos e *ℤ z) *ℤ pos d
         turned z d e =

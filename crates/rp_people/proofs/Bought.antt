@@ -3,7 +3,7 @@
 use Rattle.std.proofs.Common.{◌≡◌, ℕ, ◌+◌, ◌*◌, ◌<◌, ◌≤◌, ◌⊎◌, ◌↔◌, inl, inr, ap, sym, subst, ◌∙◌, cond, ltb, arith}
 use Rattle.std.proofs.Math.Nat.{le_of_mul-le-mul_left, lt_of_mul-lt-mul_left, mul-le-mul_left, mul-lt-mul_of_pos_left}
 use Rattle.std.proofs.lemmas.Bool.{cases_lt, le-ltb, lt-ltb}
-use Rattle.std.specs.Prelude.{Bool, if◌then◌else◌, nat_lt}
+use Rattle.std.specs.Prelude.{if◌then◌else◌, nat_lt}
 use Rattle.rp_evidence.specs.Demand.{BudgetInput, FractionBundle, IsInfimum, IsOnBudget, IsSupportingDemand, IsSupremum, enlarged, spending}
 use Rattle.rp_evidence.specs.Garp.{MeetsGarp}
 use Rattle.rp_evidence.specs.Input.{TableInput}
@@ -13,14 +13,14 @@ use Rattle.rp_evidence.proofs.DemandLaws.{is_enlarged}
 use Rattle.rp_evidence.proofs.SameCosts.{no_violation_same}
 use Rattle.rp_people.specs.Bundles.{CostsAtMost, IsBundle}
 use Rattle.rp_people.specs.Choices.{AreChoices, Choices, IsStrictChoice, IsWeakChoice, MeetAxiom}
-use Rattle.rp_people.specs.Preferences.{IsAtLeastAsGood}
+use Rattle.rp_people.specs.Preferences.{IsAtLeastAsGood, shown_by}
 use Rattle.rp_people.specs.Rationalizing.{IsBest}
 use Rattle.rp_people.specs.TableChoices.{IsFullInput, choices_at}
 use Rattle.rp_people.specs.Utilities.{preference_of}
 use Rattle.rp_people.proofs.AfriatUtilities.{concave_utility_exists}
 use Rattle.rp_people.proofs.Chains.{meets_axiom}
-use Rattle.rp_people.proofs.Orders.{nonsatiated_utility}
-use Rattle.rp_people.specs.BoughtBundles.{IsBought, IsBoughtByUtility, IsInfimumBought, IsSupremumBought}
+use Rattle.rp_people.proofs.Orders.{passes_for, shown_fits, shows}
+use Rattle.rp_people.specs.BoughtBundles.{IsBought, IsBoughtBy, IsBoughtByUtility, IsInfimumBought, IsSupremumBought}
 
 -- ---- the table with one choice more
 
@@ -138,13 +138,13 @@ module _ (input : TableInput) (budget : BudgetInput) (x : FractionBundle) where
 
   -- ---- the best at a choice
 
-  abbrev BestBy : (FractionBundle → FractionBundle → Bool) → (ℕ → ℕ) → FractionBundle → ℕ → Type 0
+  abbrev BestBy : (FractionBundle → FractionBundle → Type 0) → (ℕ → ℕ) → FractionBundle → ℕ → Type 0
   BestBy prefers p z o = (y : FractionBundle) → IsBundle y → CostsAtMost input.goods p y o 1 → IsAtLeastAsGood prefers z y
 
-  best_old : (prefers : FractionBundle → FractionBundle → Bool) (s : ℕ) → s < input.n → IsBest (widened input budget x) prefers s ≡ IsBest (choices_at input 1 1) prefers s
+  best_old : (prefers : FractionBundle → FractionBundle → Type 0) (s : ℕ) → s < input.n → IsBest (widened input budget x) prefers s ≡ IsBest (choices_at input 1 1) prefers s
   best_old prefers s a = λ i. BestBy prefers (old (input.price s) budget.prices s a i) (old (bundle_at input s) x s a i) (old (1 * input.cost s s) budget.expenditure s a i)
 
-  best_new : (prefers : FractionBundle → FractionBundle → Bool) (s : ℕ) → input.n ≤ s → IsBest (widened input budget x) prefers s ≡ BestBy prefers budget.prices x budget.expenditure
+  best_new : (prefers : FractionBundle → FractionBundle → Type 0) (s : ℕ) → input.n ≤ s → IsBest (widened input budget x) prefers s ≡ BestBy prefers budget.prices x budget.expenditure
   best_new prefers s a = λ i. BestBy prefers (new (input.price s) budget.prices s a i) (new (bundle_at input s) x s a i) (new (1 * input.cost s s) budget.expenditure s a i)
 
   module _ (full : IsFullInput input) (positive : (g : ℕ) → g < input.goods → 1 ≤ budget.prices g) (fraction : 0 < x.den) where
@@ -180,24 +180,28 @@ module _ (input : TableInput) (budget : BudgetInput) (x : FractionBundle) where
 
   pub by_utility_is_bought : IsBoughtByUtility input budget x → IsBought input budget x
   by_utility_is_bought is = record {
-    on_budget = is.on_budget;
-    prefers = preference_of is.utility;
-    preference = nonsatiated_utility input.goods is.utility is.concave_utility;
-    rationalizes = is.rationalizes;
-    best = is.best;
+    passes = passes_for is.utility;
+    by_preference = record {
+      on_budget = is.on_budget;
+      fits = shown_fits (choices_at input 1 1) is.utility is.concave_utility is.rationalizes;
+      best = λ y iy costs. (shows is.utility x y).0 (is.best y iy costs);
+    };
   }
 
-  pub bought_is_supporting : IsFullInput input → ((g : ℕ) → g < input.goods → 1 ≤ budget.prices g) → IsBought input budget x → IsSupportingDemand input budget x
-  bought_is_supporting full positive is =
+  pub bought_by_is_supporting : (prefers : FractionBundle → FractionBundle → Type 0) → IsFullInput input → ((g : ℕ) → g < input.goods → 1 ≤ budget.prices g) → IsBoughtBy input budget prefers x → IsSupportingDemand input budget x
+  bought_by_is_supporting prefers full positive is =
       let are = are_choices full positive is.on_budget.fraction in
       record {
         on_budget = is.on_budget;
-        meets = (meets_where is.on_budget).1 (meets_axiom (widened input budget x) are.bundles is.prefers is.preference (λ s a. best_at s a (cases_lt s input.n)));
+        meets = (meets_where is.on_budget).1 (meets_axiom (widened input budget x) are.bundles prefers is.fits.preference (λ s a. best_at s a (cases_lt s input.n)));
       }
     where
-      best_at : (s : ℕ) → s < input.n + 1 → (s < input.n) ⊎ (input.n ≤ s) → IsBest (widened input budget x) is.prefers s
-      best_at s a (inl l) = subst (λ T. T) (sym (best_old is.prefers s l)) (is.rationalizes s l)
-      best_at s a (inr l) = subst (λ T. T) (sym (best_new is.prefers s l)) is.best
+      best_at : (s : ℕ) → s < input.n + 1 → (s < input.n) ⊎ (input.n ≤ s) → IsBest (widened input budget x) prefers s
+      best_at s a (inl l) = subst (λ T. T) (sym (best_old prefers s l)) (is.fits.rationalizes s l)
+      best_at s a (inr l) = subst (λ T. T) (sym (best_new prefers s l)) is.best
+
+  pub bought_is_supporting : IsFullInput input → ((g : ℕ) → g < input.goods → 1 ≤ budget.prices g) → IsBought input budget x → IsSupportingDemand input budget x
+  bought_is_supporting full positive is = bought_by_is_supporting (shown_by is.passes) full positive is.by_preference
 
 module _ (input : TableInput) (budget : BudgetInput) (full : IsFullInput input) (positive : (g : ℕ) → g < input.goods → 1 ≤ budget.prices g) where
   pub infimum_bought : (g num den : ℕ) → IsInfimum input budget g num den → IsInfimumBought input budget g num den

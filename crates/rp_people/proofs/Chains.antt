@@ -1,17 +1,16 @@
 -- Along a walk of weak steps a rationalizing preference has each bundle at least as good as the next, and a strict step
 -- leads to a worse one, since a better one than it is still affordable: so no closed walk has one.
 use Rattle.std.proofs.Common.{ℕ, ◌<◌, inl, inr, List, [], ◌∷◌, sym, subst}
-use Rattle.std.specs.Prelude.{Bool}
 use Rattle.rp_evidence.specs.Demand.{FractionBundle}
 use Rattle.rp_evidence.specs.Walk.{HasStepFrom, LeadsTo}
 use Rattle.rp_evidence.proofs.Walks.{ends_below, starts_below}
 use Rattle.rp_people.specs.Bundles.{IsBundle}
 use Rattle.rp_people.specs.Choices.{Choices, IsStrictChoice, IsWeakChoice, MeetAxiom}
 use Rattle.rp_people.specs.Preferences.{IsAtLeastAsGood, IsNonsatiatedPreference}
-use Rattle.rp_people.specs.Rationalizing.{NoneHasBoth, Rationalizes}
+use Rattle.rp_people.specs.Rationalizing.{HasNotBoth, Rationalizes}
 use Rattle.rp_people.proofs.Rooms.{room}
 
-module _ (choices : Choices) (bundles : (s : ℕ) → s < choices.n → IsBundle (choices.bundle s)) (prefers : FractionBundle → FractionBundle → Bool) (preference : IsNonsatiatedPreference choices.goods prefers) (rationalizes : Rationalizes choices prefers) where
+module _ (choices : Choices) (bundles : (s : ℕ) → s < choices.n → IsBundle (choices.bundle s)) (prefers : FractionBundle → FractionBundle → Type 0) (preference : IsNonsatiatedPreference choices.goods prefers) (rationalizes : Rationalizes choices prefers) where
   as_good_as_itself : (x : FractionBundle) → IsBundle x → IsAtLeastAsGood prefers x x
   as_good_as_itself x is = elim (preference.complete x x is is) [ inl h ↦ h | inr h ↦ h ]
 
@@ -51,7 +50,8 @@ module _ (choices : Choices) (bundles : (s : ℕ) → s < choices.n → IsBundle
       no_way_back x x w l v.1 (as_good_as_itself (choices.bundle x) (bundles x (starts_below choices.n (IsWeakChoice choices) x x w l)))
 
 -- two choices, the first weakly preferred to the second and the second strictly to the first
-pub none_has_both : (choices : Choices) (s t : ℕ) → IsBundle (choices.bundle s) → IsBundle (choices.bundle t) → IsWeakChoice choices s t → IsStrictChoice choices t s → NoneHasBoth choices s t
-none_has_both choices s t is_s is_t weak strict prefers preference best_s best_t =
+pub has_not_both : (choices : Choices) (prefers : FractionBundle → FractionBundle → Type 0) (s t : ℕ) → IsBundle (choices.bundle s) → IsBundle (choices.bundle t) → IsWeakChoice choices s t → IsStrictChoice choices t s
+    → HasNotBoth choices prefers s t
+has_not_both choices prefers s t is_s is_t weak strict preference best_s best_t =
     let r = room choices.goods (choices.price t) prefers (choices.bundle s) (choices.own t) choices.scale preference.nonsatiated is_s strict in
     r.better.1 (preference.transitive (choices.bundle s) (choices.bundle t) r.more is_s is_t r.bundle (best_s (choices.bundle t) is_t weak) (best_t r.more r.bundle r.costs))

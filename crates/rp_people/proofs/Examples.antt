@@ -1,17 +1,19 @@
 -- The definitions at small tables: a preference that rationalizes two choices that are weakly preferred to each other,
 -- none for a contradiction of three steps, and a constant answer is no preference.
-use Rattle.std.proofs.Common.{ℕ, zero, suc, ◌<◌, inl, List, [], ◌∷◌, refl, arith, slice_index, slice_index_or}
+use Rattle.std.proofs.Common.{ℕ, zero, suc, ◌*◌, ◌<◌, ◌↔◌, inl, List, [], ◌∷◌, refl, arith, slice_index, slice_index_or}
 use Rattle.std.proofs.lemmas.Int.{ints}
-use Rattle.std.specs.Prelude.{Bool, ℤ, pos, ◌*ℤ◌, ◌≤ℤ◌}
+use Rattle.std.specs.Prelude.{ℤ, pos, ◌*ℤ◌, ◌≤ℤ◌, nat_le}
 use Rattle.rp_table.specs.Spending.{spending}
+use Rattle.rp_evidence.specs.Demand.{FractionBundle}
 use Rattle.rp_evidence.specs.Afriat.{allowed_for_by}
 use Rattle.rp_people.specs.AfriatUtility.{IsModelOfChoices, scaled_cost}
 use Rattle.rp_people.specs.Bundles.{IsBundle}
 use Rattle.rp_people.specs.Choices.{Choices, IsStrictChoice, IsWeakChoice, MeetAxiom}
-use Rattle.rp_people.specs.Preferences.{IsPreference}
+use Rattle.rp_people.specs.Preferences.{IsPreference, shown_by}
 use Rattle.rp_people.specs.Rationalizing.{HasNonsatiatedPreference, HasPreference, Rationalizes}
 use Rattle.rp_people.proofs.Chains.{meets_axiom}
 use Rattle.rp_people.proofs.FactsOfPreferences.{by, by_is_preference, more_size, same_size, size, test}
+use Rattle.rp_people.proofs.Orders.{preference_same, rationalizes_same}
 use Rattle.rp_people.proofs.Rooms.{preference_is_nonsatiated}
 
 abbrev entry : List (List ℕ) → ℕ → ℕ → ℕ
@@ -30,7 +32,7 @@ told n goods prices quantities = record {
 
 -- ---- a constant answer is no preference
 
-constant_is_none : (goods : ℕ) (answer : Bool) → ¬ IsPreference goods (λ x y. answer)
+constant_is_none : (goods : ℕ) (answer : Type 0) → ¬ IsPreference goods (λ x y. answer)
 constant_is_none goods answer is =
     let more = is.monotone (record { den = 1; num = λ g. 1 }) (record { den = 1; num = λ g. 0 }) (omega arith) (omega arith) (λ g l. omega arith) in
     more.1 more.0
@@ -56,8 +58,15 @@ by_size_rationalizes zero l x ix h = (test _ _).1 (omega (arith, h))
 by_size_rationalizes (suc zero) l x ix h = (test _ _).1 (omega (arith, h))
 by_size_rationalizes (suc (suc s)) l x ix h = absurd (omega arith)
 
+by_size_shown : (x y : FractionBundle) → by size x y ↔ shown_by (λ x y evidence. nat_le (size y * x.den) (size x * y.den)) x y
+by_size_shown x y = (λ h. (λ k. 0, h), λ h. h.1)
+
 some_preference : HasPreference either
-some_preference = record { prefers = by size; preference = by_is_preference size 2 same_size more_size; rationalizes = by_size_rationalizes }
+some_preference = record {
+  passes = λ x y evidence. nat_le (size y * x.den) (size x * y.den);
+  preference = preference_same (by size) _ by_size_shown 2 (by_is_preference size 2 same_size more_size);
+  rationalizes = rationalizes_same (by size) _ by_size_shown either by_size_rationalizes;
+}
 
 first_alone : ¬ Rationalizes either (by (λ x. x.num 0))
 first_alone rationalizes =
@@ -106,4 +115,4 @@ around_contradicts meets =
     meets (0 ∷ 1 ∷ 2 ∷ 0 ∷ []) ((0, (refl, (omega arith, omega arith, (omega arith, omega arith, (omega arith, omega arith, (omega arith, refl))))), omega arith), inl (omega arith))
 
 no_preference : ¬ HasNonsatiatedPreference around
-no_preference has = around_contradicts (meets_axiom around (λ s l. omega arith) has.prefers has.preference has.rationalizes)
+no_preference has = around_contradicts (meets_axiom around (λ s l. omega arith) (shown_by has.passes) has.fits.preference has.fits.rationalizes)

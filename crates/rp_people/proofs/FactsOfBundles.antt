@@ -2,11 +2,11 @@
 -- a definition is weaker or stronger by a word.
 use Rattle.std.proofs.Common.{◌≡◌, ℕ, zero, suc, ◌*◌, ◌<◌, ◌≤◌, List, [], ◌∷◌, refl, arith, slice_index}
 use Rattle.std.proofs.lemmas.Int.{ints}
-use Rattle.std.specs.Prelude.{ℤ, pos, negsuc, IsTrue}
+use Rattle.std.specs.Prelude.{ℤ, pos, negsuc}
 use Rattle.rp_evidence.specs.Demand.{FractionBundle}
 use Rattle.rp_people.specs.Bundles.{AreEqualInValue, AreWithin, CostsAtMost, CostsLess, HasMoreOfEveryGood, HasMoreOfSomeGood, IsBundle, mixture, multiple}
 use Rattle.rp_people.specs.Choices.{Choices, IsAffordable, IsCheaper, IsStrictChoice, IsWeakChoice}
-use Rattle.rp_people.specs.Fractions.{AreEqual, IsAtMost, IsBelow, SignedFraction, average, is_at_most, less, times}
+use Rattle.rp_people.specs.Fractions.{AreEqual, IsAtMost, IsBelow, SignedFraction, average, less, times}
 
 -- so much of each good, over one denominator
 abbrev pub over : ℕ → List ℕ → FractionBundle
@@ -136,8 +136,8 @@ halves_are_equal = (refl, omega (arith, ints), λ l. absurd (omega (arith, ints,
 half_is_no_third : ¬ AreEqual (ratio (pos 1) 2) (ratio (pos 1) 3)
 half_is_no_third e = absurd (omega (arith, ints, e))
 
-test_of_halves : IsTrue (is_at_most (ratio (pos 1) 2) (ratio (pos 2) 4)) × (¬ IsTrue (is_at_most (ratio (pos 1) 2) (ratio (pos 1) 3)))
-test_of_halves = (refl, λ e. absurd cc)
+test_of_halves : IsAtMost (ratio (pos 1) 2) (ratio (pos 2) 4) × (¬ IsAtMost (ratio (pos 1) 2) (ratio (pos 1) 3))
+test_of_halves = (omega (arith, ints), λ l. absurd (omega (arith, ints, l)))
 
 three_halves_of_minus_half : times 3 2 (ratio (negsuc 0) 2) ≡ ratio (negsuc 2) 4
 three_halves_of_minus_half = refl

@@ -21,6 +21,7 @@ use Rattle.rp_people.specs.Choices.{Choices}
 use Rattle.rp_people.specs.DividedLevels.{DividesLevels}
 use Rattle.rp_people.specs.Fractions.{AreEqual, SignedFraction}
 use Rattle.rp_people.specs.Money.{HasConcaveWorth, HasWorth, RationalizesWithMoney, gain}
+use Rattle.rp_people.specs.Preferences.{shown_by}
 use Rattle.rp_people.specs.Rationalizing.{HasConcaveUtility, HasHomogeneousUtility, HasNonsatiatedHomotheticPreference, HasNonsatiatedPreference}
 use Rattle.rp_people.specs.TableChoices.{IsFullInput, choices_at, choices_of}
 use Rattle.rp_people.specs.WelfareOfPeople.{BoundWelfareOfPeople}
@@ -53,8 +54,8 @@ module _ (input : TableInput) (budget : BudgetInput) (g num den num' den' : ℕ)
 lower_is_below_upper : (input : TableInput) (prices : ℕ → ℕ) (t upper at : ℕ) (value : Fraction) (pair : _) → HasNonsatiatedPreference (choices_at input 1 1) → BoundWelfareOfPeople input prices t upper at (Shown value pair)
     → value.num ≤ upper * value.den
 lower_is_below_upper input prices t upper at value pair has is =
-    let good = is.as_good has.prefers has.preference has.rationalizes in
-    let enough = is.none_cheaper has.prefers has.preference has.rationalizes (bundle_at input at) (omega arith) good in
+    let kept = is.kept has.passes has.fits in
+    let enough = kept.none_cheaper (bundle_at input at) (omega arith) kept.as_good in
     subst (λ u. value.num ≤ u * value.den) is.costs (omega (arith, enough))
 
 -- ---- the level that divides is one: between two there would be a level at which some preference and none rationalizes
@@ -79,12 +80,14 @@ module _ (choices : Choices) where
   homogeneous_or_none has none =
       let h = preference_of_homogeneous choices has.utility has.concave_utility.utility_of_bundles has.concave_utility.monotone has.homogeneous has.rationalizes in
       none (record {
-        prefers = h.prefers;
-        complete = h.preference.complete;
-        transitive = h.preference.transitive;
-        nonsatiated = more_is_nonsatiated choices.goods h.prefers h.preference.monotone;
-        homothetic = h.homothetic;
-        rationalizes = h.rationalizes;
+        passes = h.passes;
+        fits = record {
+          complete = h.preference.complete;
+          transitive = h.preference.transitive;
+          nonsatiated = more_is_nonsatiated choices.goods (shown_by h.passes) h.preference.monotone;
+          homothetic = h.homothetic;
+          rationalizes = h.rationalizes;
+        };
       })
 
   worth_or_none : HasConcaveWorth choices → ¬ (¬ HasWorth choices)
@@ -100,12 +103,14 @@ module _ (input : TableInput) (full : IsFullInput input) where
   homogeneous_meets has =
       let h = preference_of_homogeneous (choices_at input 1 1) has.utility has.concave_utility.utility_of_bundles has.concave_utility.monotone has.homogeneous has.rationalizes in
       homothetic_meets input full (record {
-        prefers = h.prefers;
-        complete = h.preference.complete;
-        transitive = h.preference.transitive;
-        nonsatiated = more_is_nonsatiated input.goods h.prefers h.preference.monotone;
-        homothetic = h.homothetic;
-        rationalizes = h.rationalizes;
+        passes = h.passes;
+        fits = record {
+          complete = h.preference.complete;
+          transitive = h.preference.transitive;
+          nonsatiated = more_is_nonsatiated input.goods (shown_by h.passes) h.preference.monotone;
+          homothetic = h.homothetic;
+          rationalizes = h.rationalizes;
+        };
       })
 
   concave_worth_meets : HasConcaveWorth (choices_at input 1 1) → MeetsQuasilinearTest input.n input.cost

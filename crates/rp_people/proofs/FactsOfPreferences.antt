@@ -4,7 +4,7 @@
 use Rattle.std.proofs.Common.{◌≡◌, ℕ, zero, suc, ◌+◌, ◌*◌, ◌<◌, ◌≤◌, ◌⊎◌, inl, inr, [], ◌∷◌, ap, refl, arith}
 use Rattle.std.proofs.lemmas.Bool.{cases_lt}
 use Rattle.std.proofs.Math.Nat.{le_of_mul-le-mul_left, mul-le-mul_left, mul-pos}
-use Rattle.std.specs.Prelude.{Bool, IsTrue, ◌&&◌, max, min, nat_le}
+use Rattle.std.specs.Prelude.{IsTrue, ◌&&◌, max, min, nat_le}
 use Rattle.rp_table.specs.Spending.{spending}
 use Rattle.rp_evidence.specs.Demand.{FractionBundle}
 use Rattle.rp_people.specs.Bundles.{AreEqualInValue, AreWithin, HasMoreOfEveryGood, IsBundle, multiple}
@@ -14,8 +14,8 @@ use Rattle.rp_people.proofs.FactsOfBundles.{over}
 
 -- ---- who looks at a number of each bundle, over its denominator
 
-abbrev pub by : (FractionBundle → ℕ) → FractionBundle → FractionBundle → Bool
-by f x y = nat_le (f y * x.den) (f x * y.den)
+abbrev pub by : (FractionBundle → ℕ) → FractionBundle → FractionBundle → Type 0
+by f x y = IsTrue (nat_le (f y * x.den) (f x * y.den))
 
 pub test : (a b : ℕ) → (IsTrue (nat_le a b) → a ≤ b) × (a ≤ b → IsTrue (nat_le a b))
 test a b = (λ e. grind arith, λ l. grind arith)
@@ -104,16 +104,16 @@ no_better_by_size is = is.1 refl
 -- ---- answers that are no preferences
 
 -- who looks at both goods does not compare (2, 0) and (0, 2)
-by_both : FractionBundle → FractionBundle → Bool
-by_both x y = nat_le (y.num 0 * x.den) (x.num 0 * y.den) && nat_le (y.num 1 * x.den) (x.num 1 * y.den)
+by_both : FractionBundle → FractionBundle → Type 0
+by_both x y = IsTrue (nat_le (y.num 0 * x.den) (x.num 0 * y.den) && nat_le (y.num 1 * x.den) (x.num 1 * y.den))
 
 not_complete : ¬ IsComplete by_both
 unfolding by_both
 not_complete complete = elim (complete (over 1 (2 ∷ 0 ∷ [])) (over 1 (0 ∷ 2 ∷ [])) (omega arith) (omega arith)) [ inl e ↦ absurd cc | inr e ↦ absurd cc ]
 
 -- who does not see one unit has 1 as good as 2, and 2 as 3
-nearly : FractionBundle → FractionBundle → Bool
-nearly x y = nat_le (y.num 0) (x.num 0 + 1)
+nearly : FractionBundle → FractionBundle → Type 0
+nearly x y = IsTrue (nat_le (y.num 0) (x.num 0 + 1))
 
 not_transitive : ¬ IsTransitive nearly
 unfolding nearly
@@ -122,8 +122,8 @@ not_transitive transitive =
     absurd cc
 
 -- who looks at numerators tells 1/2 and 2/4 apart
-as_written : FractionBundle → FractionBundle → Bool
-as_written x y = nat_le (y.num 0) (x.num 0)
+as_written : FractionBundle → FractionBundle → Type 0
+as_written x y = IsTrue (nat_le (y.num 0) (x.num 0))
 
 not_by_value : ¬ TreatsAlikeByValue 1 as_written
 unfolding as_written
@@ -136,15 +136,15 @@ not_by_value alike =
     same (suc g) l = absurd (omega arith)
 
 -- who answers always the same is satiated
-always_satiated : (goods : ℕ) (answer : Bool) → ¬ IsNonsatiated goods (λ x y. answer)
+always_satiated : (goods : ℕ) (answer : Type 0) → ¬ IsNonsatiated goods (λ x y. answer)
 always_satiated goods answer is =
     let r = is (over 1 []) 1 1 (omega arith) (omega arith) (omega arith) in
     r.3.1 r.3.0
 
 -- ---- local nonsatiation asks for less than more of every good: who wants the first good and not the second
 
-abbrev by_difference : FractionBundle → FractionBundle → Bool
-by_difference x y = nat_le (y.num 0 * x.den + x.num 1 * y.den) (x.num 0 * y.den + y.num 1 * x.den)
+abbrev by_difference : FractionBundle → FractionBundle → Type 0
+by_difference x y = IsTrue (nat_le (y.num 0 * x.den + x.num 1 * y.den) (x.num 0 * y.den + y.num 1 * x.den))
 
 -- the bundle and 1/parts of the first good
 first_added : ℕ → FractionBundle → ℕ → ℕ
@@ -210,8 +210,8 @@ size_is_homothetic num den x y some_num some_den ix iy e =
         let q = ap (λ z. z * (den * d)) ev in
         omega arith
 
-above_one : FractionBundle → FractionBundle → Bool
-above_one x y = nat_le (max (y.num 0) y.den * x.den) (max (x.num 0) x.den * y.den)
+above_one : FractionBundle → FractionBundle → Type 0
+above_one x y = IsTrue (nat_le (max (y.num 0) y.den * x.den) (max (x.num 0) x.den * y.den))
 
 above_one_is_not : ¬ IsHomotheticPreference above_one
 unfolding above_one

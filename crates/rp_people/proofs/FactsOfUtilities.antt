@@ -4,7 +4,7 @@
 use Rattle.std.proofs.Common.{◌≡◌, ℕ, zero, suc, ◌+◌, ◌*◌, ◌<◌, ◌≤◌, [], ◌∷◌, ap, refl, sym, subst, arith}
 use Rattle.std.proofs.lemmas.Int.{ints}
 use Rattle.std.proofs.Math.Nat.{mul-le-mul_left}
-use Rattle.std.specs.Prelude.{IsTrue, min, pos, ◌+ℤ◌, ◌*ℤ◌, ◌<ℤ◌, ◌≤ℤ◌}
+use Rattle.std.specs.Prelude.{min, pos, ◌+ℤ◌, ◌*ℤ◌, ◌<ℤ◌, ◌≤ℤ◌}
 use Rattle.rp_evidence.specs.Demand.{FractionBundle}
 use Rattle.rp_people.specs.Bundles.{AreEqualInValue, HasMoreOfEveryGood, mixture, multiple}
 use Rattle.rp_people.specs.Fractions.{SignedFraction}
@@ -123,5 +123,5 @@ greater_is_not_concave concave =
 
 -- ---- the preference of a utility: what has more of it is better, and what has as much as good
 
-by_utility : IsTrue (preference_of (of size) (over 1 (2 ∷ 0 ∷ [])) (over 2 (2 ∷ 2 ∷ []))) × (¬ IsTrue (preference_of (of size) (over 1 (1 ∷ 0 ∷ [])) (over 2 (2 ∷ 2 ∷ []))))
-by_utility = (refl, λ e. absurd cc)
+by_utility : preference_of (of size) (over 1 (2 ∷ 0 ∷ [])) (over 2 (2 ∷ 2 ∷ [])) × (¬ preference_of (of size) (over 1 (1 ∷ 0 ∷ [])) (over 2 (2 ∷ 2 ∷ [])))
+by_utility = (omega (arith, ints), λ l. absurd (omega (arith, ints, l)))

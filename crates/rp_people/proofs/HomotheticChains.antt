@@ -4,7 +4,6 @@
 use Rattle.std.proofs.Common.{◌≡◌, ℕ, ◌*◌, ◌<◌, ◌≤◌, inl, inr, List, [], ◌∷◌, ap, sym, subst, arith}
 use Rattle.std.proofs.lemmas.Bool.{cases_lt}
 use Rattle.std.proofs.Math.Nat.{le_of_mul-le-mul_left, mul-pos}
-use Rattle.std.specs.Prelude.{Bool}
 use Rattle.rp_evidence.specs.Demand.{FractionBundle}
 use Rattle.rp_evidence.specs.Homothetic.{MeetsHomotheticTest, product_from}
 use Rattle.rp_evidence.specs.Input.{TableInput}
@@ -30,7 +29,7 @@ back_and_forth goods num den x z some_num some_den same g l =
         let ge : b ≤ a = le_of_mul-le-mul_left {k = k} (omega arith) some in
         omega arith
 
-module _ (input : TableInput) (full : IsFullInput input) (prefers : FractionBundle → FractionBundle → Bool) (transitive : IsTransitive prefers) (nonsatiated : IsNonsatiatedByValue input.goods prefers) (homothetic : IsHomotheticPreference prefers)
+module _ (input : TableInput) (full : IsFullInput input) (prefers : FractionBundle → FractionBundle → Type 0) (transitive : IsTransitive prefers) (nonsatiated : IsNonsatiatedByValue input.goods prefers) (homothetic : IsHomotheticPreference prefers)
     (rationalizes : Rationalizes (choices_at input 1 1) prefers) where
   -- the bundle of s is at least as good as one of which num/den times are better than the bundle of t, however written
   record IsAbove (s t num den : ℕ) : Type 0 where

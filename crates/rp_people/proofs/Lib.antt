@@ -13,6 +13,7 @@ pub mod FullTables
 pub mod HomotheticChains
 pub mod Minima
 pub mod MoneyLaws
+pub mod OfOnePreference
 pub mod Orders
 pub mod Potentials
 pub mod Rooms

@@ -3,7 +3,6 @@
 -- bundle with a little of each good more is near.
 use Rattle.std.proofs.Common.{ℕ, zero, suc, ◌+◌, ◌*◌, ◌<◌, ◌≤◌, refl, arith}
 use Rattle.std.proofs.Math.Nat.{le_of_mul-le-mul_left, lt_of_mul-lt-mul_left, mul-le-mul_left, mul-pos}
-use Rattle.std.specs.Prelude.{Bool}
 use Rattle.rp_table.specs.Spending.{spending}
 use Rattle.rp_evidence.specs.Demand.{FractionBundle}
 use Rattle.rp_people.specs.Bundles.{AreEqualInValue, AreWithin, CostsAtMost, CostsLess, HasMoreOfEveryGood, IsBundle}
@@ -44,13 +43,13 @@ near_costs goods prices x y num den ix less near =
     (spending_near goods prices x.num y.num x.den y.den (suc (den * (x.den * spending goods prices (λ g. 1)))) (λ g l. (near g l).0))
 
 -- a better bundle that still costs at most num/den
-pub record IsRoom (goods : ℕ) (prices : ℕ → ℕ) (prefers : FractionBundle → FractionBundle → Bool) (x : FractionBundle) (num den : ℕ) : Type 0 where
+pub record IsRoom (goods : ℕ) (prices : ℕ → ℕ) (prefers : FractionBundle → FractionBundle → Type 0) (x : FractionBundle) (num den : ℕ) : Type 0 where
   pub more : FractionBundle
   pub bundle : IsBundle more
   pub better : IsBetter prefers more x
   pub costs : CostsAtMost goods prices more num den
 
-pub room : (goods : ℕ) (prices : ℕ → ℕ) (prefers : FractionBundle → FractionBundle → Bool) (x : FractionBundle) (num den : ℕ) → IsNonsatiated goods prefers → IsBundle x → CostsLess goods prices x num den
+pub room : (goods : ℕ) (prices : ℕ → ℕ) (prefers : FractionBundle → FractionBundle → Type 0) (x : FractionBundle) (num den : ℕ) → IsNonsatiated goods prefers → IsBundle x → CostsLess goods prices x num den
     → IsRoom goods prices prefers x num den
 room goods prices prefers x num den nonsatiated ix less =
     let r = nonsatiated x 1 (enough_parts goods prices x den) ix (omega arith) (some_parts goods prices x den) in
@@ -80,7 +79,7 @@ little_more_has goods x z parts some ix iz same g l =
 itself_by_value : (goods : ℕ) (x : FractionBundle) → AreEqualInValue goods x x
 itself_by_value goods x g l = refl
 
-module _ (goods : ℕ) (prefers : FractionBundle → FractionBundle → Bool) where
+module _ (goods : ℕ) (prefers : FractionBundle → FractionBundle → Type 0) where
   pub more_is_nonsatiated : PrefersMore goods prefers → IsNonsatiatedByValue goods prefers
   more_is_nonsatiated more x num den ix some_num some_den = (
     a_little_more den x,

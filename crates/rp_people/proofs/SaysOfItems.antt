@@ -2,7 +2,7 @@
 use Rattle.std.proofs.Common.{ℕ, ◌<◌, ◌≤◌, arith}
 use Rattle.std.specs.Prelude.{List, pos, slice_index_or, All, slice_index}
 use Rattle.rp_evidence.specs.AfriatEvidence.{ProvesOwnAfriat, multiplier_in, utility_in}
-use Rattle.rp_evidence.specs.Demand.{BudgetInput}
+use Rattle.rp_evidence.specs.Demand.{BudgetInput, FractionBundle}
 use Rattle.rp_evidence.specs.DemandEvidence.{ProvesDemand, ProvesLower, ProvesUpper, ProvesWelfare, budget_of, bundle_of}
 use Rattle.rp_evidence.specs.declared.demand.Bound.{Bound}
 use Rattle.rp_evidence.specs.declared.demand.Bound.TheVariants.{Shown, Wide as BoundWide}
@@ -34,7 +34,8 @@ use Rattle.rp_evidence.specs.declared.quasilinear.Quasi.{Quasi}
 use Rattle.rp_evidence.specs.declared.quasilinear.Quasi.TheVariants.{Cycle as Negative, Values as Numbers}
 use Rattle.rp_people.specs.DividedLevels.{DividesLevels}
 use Rattle.rp_people.specs.Money.{HasWorth}
-use Rattle.rp_people.specs.Rationalizing.{HasNonsatiatedHomotheticPreference}
+use Rattle.rp_people.specs.Preferences.{shown_by}
+use Rattle.rp_people.specs.Rationalizing.{FitsHomothetically, HasNonsatiatedHomotheticPreference}
 use Rattle.rp_people.specs.Says.{Says, SaysAfriat, SaysDemand, SaysEfficiency, SaysHomothetic, SaysLower, SaysOfChoices, SaysQuasilinear, SaysUpper, SaysWelfare}
 use Rattle.rp_people.specs.TableChoices.{IsFullInput, choices_at, choices_of}
 use Rattle.rp_people.proofs.Bought.{infimum_bought, supporting_is_bought_by_utility, supremum_bought}
@@ -44,8 +45,11 @@ use Rattle.rp_people.proofs.TableLaws.{at_level, by_levels, own_model_utility}
 use Rattle.rp_people.proofs.Values.{values_give_utility}
 use Rattle.rp_people.proofs.WelfareBounds.{bounds_hold}
 
+pub homothetic_of_one : (input : TableInput) → IsFullInput input → (prefers : FractionBundle → FractionBundle → Type 0) → FitsHomothetically (choices_at input 1 1) prefers → MeetsHomotheticTest input.n input.cost
+homothetic_of_one input full prefers fits = meets_test input full prefers fits.transitive fits.nonsatiated fits.homothetic fits.rationalizes
+
 pub homothetic_meets : (input : TableInput) → IsFullInput input → HasNonsatiatedHomotheticPreference (choices_at input 1 1) → MeetsHomotheticTest input.n input.cost
-homothetic_meets input full has = meets_test input full has.prefers has.transitive has.nonsatiated has.homothetic has.rationalizes
+homothetic_meets input full has = homothetic_of_one input full (shown_by has.passes) has.fits
 
 pub worth_meets : (input : TableInput) → HasWorth (choices_at input 1 1) → MeetsQuasilinearTest input.n input.cost
 worth_meets input has = worth_meets_test input has.worth has.rationalizes

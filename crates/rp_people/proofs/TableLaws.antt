@@ -5,6 +5,7 @@ use Rattle.std.specs.Prelude.{ℤ, pos, ◌+ℤ◌, ◌-ℤ◌, ◌*ℤ◌, ◌�
 use Rattle.rp_table.specs.OwnLevels.{level_scale, own_by_level}
 use Rattle.rp_table.specs.Spending.{spending}
 use Rattle.rp_evidence.specs.Afriat.{IsModelBy, IsOwnModel, in_scale}
+use Rattle.rp_evidence.specs.Demand.{FractionBundle}
 use Rattle.rp_evidence.specs.Garp.{HasNoViolation, MeetsGarpAt}
 use Rattle.rp_evidence.specs.Input.{TableInput}
 use Rattle.rp_evidence.specs.Preference.{IsLevel, IsOwnStrict, IsOwnWeak, StrictByLevels, WeakByLevels}
@@ -12,10 +13,11 @@ use Rattle.rp_evidence.proofs.AfriatSums.{once}
 use Rattle.rp_evidence.proofs.SameCosts.{no_violation_same}
 use Rattle.rp_people.specs.AfriatUtility.{HaveUtility, IsModelOfChoices}
 use Rattle.rp_people.specs.Choices.{AreChoices, Choices, IsStrictChoice, IsWeakChoice, MeetAxiom}
-use Rattle.rp_people.specs.Rationalizing.{HasConcaveUtility, HasNonsatiatedPreference, HasPreference, NoneHasBoth}
+use Rattle.rp_people.specs.Preferences.{shown_by}
+use Rattle.rp_people.specs.Rationalizing.{Fits, HasConcaveUtility, HasNonsatiatedPreference, HasNotBoth, HasPreference, NoneHasBoth}
 use Rattle.rp_people.specs.TableChoices.{IsFullInput, choices_at, choices_held_to, choices_of}
 use Rattle.rp_people.proofs.AfriatUtilities.{concave_utility_exists, have_utility}
-use Rattle.rp_people.proofs.Chains.{meets_axiom, none_has_both}
+use Rattle.rp_people.proofs.Chains.{has_not_both, meets_axiom}
 use Rattle.rp_people.proofs.Orders.{nonsatiated_of_preference, preference_of_concave}
 
 module _ (input : TableInput) (full : IsFullInput input) (scale : ℕ) (own : ℕ → ℕ) (some_scale : 1 ≤ scale) where
@@ -41,9 +43,12 @@ module _ (input : TableInput) (full : IsFullInput input) (scale : ℕ) (own : �
         (λ s t a b. let w = held_weak s t a b in (w.1, w.0)) (λ s t a b. let w = held_strict s t a b in (w.1, w.0)),
   )
 
+  pub held_fits : (prefers : FractionBundle → FractionBundle → Type 0) → Fits (choices_held_to input scale own) prefers → HasNoViolation input.n (IsOwnWeak scale own input.cost) (IsOwnStrict scale own input.cost)
+  held_fits prefers fits =
+      held_meets.1 (meets_axiom (choices_held_to input scale own) are_choices.bundles prefers fits.preference fits.rationalizes)
+
   pub held_preferences : HasNonsatiatedPreference (choices_held_to input scale own) → HasNoViolation input.n (IsOwnWeak scale own input.cost) (IsOwnStrict scale own input.cost)
-  held_preferences has =
-      held_meets.1 (meets_axiom (choices_held_to input scale own) are_choices.bundles has.prefers has.preference has.rationalizes)
+  held_preferences has = held_fits (shown_by has.passes) has.fits
 
   pub held_utility : HasNoViolation input.n (IsOwnWeak scale own input.cost) (IsOwnStrict scale own input.cost) → HasConcaveUtility (choices_held_to input scale own)
   held_utility none = concave_utility_exists (choices_held_to input scale own) are_choices (held_meets.0 none)
@@ -96,13 +101,24 @@ module _ (input : TableInput) (full : IsFullInput input) where
       all_where (choices_at input num den) (MeetsGarpAt input.n input.cost num den)
       (held_preferences input full den (λ s. num * input.cost s s) some) (held_utility input full den (λ s. num * input.cost s s) some)
 
+  -- a preference that fits, whatever relation it is
+  pub levels_of_one : (prefers : FractionBundle → FractionBundle → Type 0) → Fits (choices_of input) prefers → HasNoViolation input.n (WeakByLevels input.levels input.cost) (StrictByLevels input.levels input.cost)
+  levels_of_one = held_fits input full (level_scale input.levels) (own_by_level input.levels input.cost) (scale_positive input.levels)
+
+  pub level_of_one : (num den : ℕ) → IsLevel num den → (prefers : FractionBundle → FractionBundle → Type 0) → Fits (choices_at input num den) prefers → MeetsGarpAt input.n input.cost num den
+  level_of_one num den level = held_fits input full den (λ s. num * input.cost s s) (omega (arith, level.0, level.1))
+
   pub own_model_utility : (u : ℕ → ℤ) (m : ℕ → ℕ) → IsOwnModel input.n input.levels input.cost u m → HaveUtility (choices_of input) u m
   own_model_utility = held_model_utility input full (level_scale input.levels) (own_by_level input.levels input.cost) (scale_positive input.levels)
 
   -- two observations that contradict each other by their levels, or by all that was spent
-  pub pair_contradicts : (s t : ℕ) → s < input.n → t < input.n → WeakByLevels input.levels input.cost s t → StrictByLevels input.levels input.cost t s → NoneHasBoth (choices_of input) s t
-  pair_contradicts s t a b weak strict =
+  pub pair_of_one : (prefers : FractionBundle → FractionBundle → Type 0) (s t : ℕ) → s < input.n → t < input.n → WeakByLevels input.levels input.cost s t → StrictByLevels input.levels input.cost t s
+      → HasNotBoth (choices_of input) prefers s t
+  pair_of_one prefers s t a b weak strict =
       let some = scale_positive input.levels in
       let w = held_weak input full (level_scale input.levels) (own_by_level input.levels input.cost) some s t a b in
       let z = held_strict input full (level_scale input.levels) (own_by_level input.levels input.cost) some t s b a in
-      none_has_both (choices_of input) s t (omega arith) (omega arith) (w.0 weak) (z.0 strict)
+      has_not_both (choices_of input) prefers s t (omega arith) (omega arith) (w.0 weak) (z.0 strict)
+
+  pub pair_contradicts : (s t : ℕ) → s < input.n → t < input.n → WeakByLevels input.levels input.cost s t → StrictByLevels input.levels input.cost t s → NoneHasBoth (choices_of input) s t
+  pair_contradicts s t a b weak strict passes = pair_of_one (shown_by passes) s t a b weak strict

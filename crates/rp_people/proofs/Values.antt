@@ -19,7 +19,7 @@ use Rattle.rp_people.specs.TableChoices.{IsFullInput, choices_at}
 use Rattle.rp_people.specs.Utilities.{preference_of}
 use Rattle.rp_people.proofs.Affine.{IsAffine}
 use Rattle.rp_people.proofs.AfriatUtilities.{IsMultiple, multiple_exists}
-use Rattle.rp_people.proofs.Differences.{IsDifference, at_most_on, at_most_test, at_most_times}
+use Rattle.rp_people.proofs.Differences.{IsDifference, at_most_on, at_most_times}
 use Rattle.rp_people.proofs.Minima.{IsLeastOf, concave_utility, homogeneous, least_utility}
 use Rattle.rp_people.proofs.Potentials.{AreWeights, along, potentials}
 
@@ -85,10 +85,9 @@ module _ (input : TableInput) (full : IsFullInput input) (v w : ℕ → ℕ) (ar
           let y = bundle_at input s in
           let below = at_most_times (utility x).num (pos (((v s * times s) * input.cost s s) * x.den)) 1 (affords_at_most s x l ix affordable) in
           let above = at_most_times (pos ((v s * times s) * input.cost s s)) (utility y).num x.den (chosen_at_least s l) in
-          at_most_test ((utility x).num *ℤ pos (utility y).den) ((utility y).num *ℤ pos (utility x).den)
-          (subst (λ d. ((utility x).num *ℤ pos (utility y).den) ≤ℤ ((utility y).num *ℤ pos d)) (sym (is.over x ix))
+          subst (λ d. ((utility x).num *ℤ pos (utility y).den) ≤ℤ ((utility y).num *ℤ pos d)) (sym (is.over x ix))
           (subst (λ d. ((utility x).num *ℤ pos d) ≤ℤ ((utility y).num *ℤ pos x.den)) (sym (is.over y (omega arith)))
-          (at_most_on _ _ _ below (subst (λ z. z ≤ℤ ((utility y).num *ℤ pos x.den)) (once ((v s * times s) * input.cost s s) x.den) above))))
+          (at_most_on _ _ _ below (subst (λ z. z ≤ℤ ((utility y).num *ℤ pos x.den)) (once ((v s * times s) * input.cost s s) x.den) above)))
         where
           once : (a d : ℕ) → pos a *ℤ pos d ≡ pos (a * d) *ℤ pos 1
           once a d = omega (arith, ints)

@@ -2,7 +2,6 @@
 -- that cost less would leave room for a better one.
 use Rattle.std.proofs.Common.{ℕ, ◌*◌, ◌<◌, ◌≤◌, inl, inr, List, [], ◌∷◌, subst, arith}
 use Rattle.std.proofs.lemmas.Bool.{cases_lt}
-use Rattle.std.specs.Prelude.{Bool}
 use Rattle.rp_evidence.specs.Demand.{FractionBundle, spending}
 use Rattle.rp_evidence.specs.DemandEvidence.{ProvesLowerWelfare, ProvesWelfareBounds}
 use Rattle.rp_evidence.specs.Input.{TableInput}
@@ -15,14 +14,14 @@ use Rattle.rp_evidence.specs.declared.demand.Bound.TheVariants.{Shown, Wide}
 use Rattle.rp_evidence.proofs.Walks.{ends_below, leads_by_weaker}
 use Rattle.rp_people.specs.Bundles.{CostsLess, IsBundle}
 use Rattle.rp_people.specs.Choices.{IsWeakChoice}
-use Rattle.rp_people.specs.Preferences.{IsAtLeastAsGood, IsNonsatiatedPreference}
-use Rattle.rp_people.specs.Rationalizing.{Rationalizes}
+use Rattle.rp_people.specs.Preferences.{IsAtLeastAsGood, IsNonsatiatedPreference, shown_by}
+use Rattle.rp_people.specs.Rationalizing.{Fits, Rationalizes}
 use Rattle.rp_people.specs.TableChoices.{choices_at}
 use Rattle.rp_people.proofs.Chains.{never_worse}
 use Rattle.rp_people.proofs.Rooms.{room}
-use Rattle.rp_people.specs.WelfareOfPeople.{BoundWelfareOfPeople}
+use Rattle.rp_people.specs.WelfareOfPeople.{BoundWelfareOfPeople, KeepsBounds}
 
-module _ (input : TableInput) (prefers : FractionBundle → FractionBundle → Bool) (preference : IsNonsatiatedPreference input.goods prefers) (rationalizes : Rationalizes (choices_at input 1 1) prefers) where
+module _ (input : TableInput) (prefers : FractionBundle → FractionBundle → Type 0) (preference : IsNonsatiatedPreference input.goods prefers) (rationalizes : Rationalizes (choices_at input 1 1) prefers) where
   weaker : (s t : ℕ) → s < input.n → t < input.n → IsWeak input.cost s t → IsWeakChoice (choices_at input 1 1) s t
   weaker s t a b h = let e = input.sums s t a b in omega arith
 
@@ -60,9 +59,15 @@ module _ (input : TableInput) (prefers : FractionBundle → FractionBundle → B
   costs_enough prices t (Shown value pair) is x ix good = is.none_less x (as_good_in_region t x ix good)
   costs_enough prices t (Wide step) is x ix good = tt
 
+pub bounds_kept : (input : TableInput) (prices : ℕ → ℕ) (t upper at : ℕ) (lower : Bound) (prefers : FractionBundle → FractionBundle → Type 0) → ProvesWelfareBounds input prices t upper at lower → Fits (choices_at input 1 1) prefers
+    → KeepsBounds input prices t at lower prefers
+bounds_kept input prices t upper at lower prefers is fits = record {
+  none_cheaper = costs_enough input prefers fits.preference fits.rationalizes prices t lower is.lower_is;
+  as_good = reached_not_better input prefers fits.preference fits.rationalizes at t is.upper_is.leads;
+}
+
 pub bounds_hold : (input : TableInput) (prices : ℕ → ℕ) (t upper at : ℕ) (lower : Bound) → ProvesWelfareBounds input prices t upper at lower → BoundWelfareOfPeople input prices t upper at lower
 bounds_hold input prices t upper at lower is = record {
-  none_cheaper = λ prefers preference rationalizes. costs_enough input prefers preference rationalizes prices t lower is.lower_is;
-  as_good = λ prefers preference rationalizes. reached_not_better input prefers preference rationalizes at t is.upper_is.leads;
+  kept = λ passes fits. bounds_kept input prices t upper at lower (shown_by passes) is fits;
   costs = is.upper_is.costs;
 }

@@ -4,24 +4,28 @@ use Rattle.rp_evidence.specs.Demand.{BudgetInput, FractionBundle, HasLess, HasMo
 use Rattle.rp_evidence.specs.Input.{TableInput}
 use Rattle.rp_people.specs.Bundles.{CostsAtMost, IsBundle}
 use Rattle.rp_people.specs.Fractions.{SignedFraction}
-use Rattle.rp_people.specs.Preferences.{IsAtLeastAsGood, IsNonsatiatedPreference}
-use Rattle.rp_people.specs.Rationalizing.{Rationalizes}
+use Rattle.rp_people.specs.Preferences.{IsAtLeastAsGood, shown_by}
+use Rattle.rp_people.specs.Rationalizing.{Fits, Rationalizes}
 use Rattle.rp_people.specs.TableChoices.{choices_at}
 use Rattle.rp_people.specs.Utilities.{IsConcaveUtility, preference_of}
 
 -- By the preference no bundle that costs at most what is spent is better: this one is at least as good as each.
-abbrev pub IsBestOnBudget : ℕ → BudgetInput → (FractionBundle → FractionBundle → Bool) → FractionBundle → Type 0
+abbrev pub IsBestOnBudget : ℕ → BudgetInput → (FractionBundle → FractionBundle → Type 0) → FractionBundle → Type 0
 IsBestOnBudget goods budget prefers x = (y : FractionBundle) → IsBundle y
     → CostsAtMost goods budget.prices y budget.expenditure 1 → IsAtLeastAsGood prefers x y
 
--- The bundle costs just what is spent, and is the best there by some locally nonsatiated preference that rationalizes
--- the table.
-pub record IsBought (input : TableInput) (budget : BudgetInput) (x : FractionBundle) : Type 0 where
+-- The bundle costs just what is spent, and is the best there by this preference, which is locally nonsatiated and
+-- rationalizes the table.
+pub record IsBoughtBy (input : TableInput) (budget : BudgetInput) (prefers : FractionBundle → FractionBundle → Type 0)
+    (x : FractionBundle) : Type 0 where
   pub on_budget : IsOnBudget input budget x
-  pub prefers : FractionBundle → FractionBundle → Bool
-  pub preference : IsNonsatiatedPreference input.goods prefers
-  pub rationalizes : Rationalizes (choices_at input 1 1) prefers
+  pub fits : Fits (choices_at input 1 1) prefers
   pub best : IsBestOnBudget input.goods budget prefers x
+
+-- It is so by some such preference.
+pub record IsBought (input : TableInput) (budget : BudgetInput) (x : FractionBundle) : Type 0 where
+  pub passes : FractionBundle → FractionBundle → (ℕ → ℕ) → Bool
+  pub by_preference : IsBoughtBy input budget (shown_by passes) x
 
 -- The same by the preference of some strictly monotone and concave utility.
 pub record IsBoughtByUtility (input : TableInput) (budget : BudgetInput) (x : FractionBundle) : Type 0 where

@@ -1,6 +1,6 @@
 -- Fractions that utilities have: a whole number, of either sign, over a positive whole number (arithmetic; Landau,
 -- Foundations of Analysis, chapters 2 and 4).
-use Rattle.std.specs.Prelude.{◌≡◌, ℕ, ◌+◌, ◌*◌, Bool, ℤ, pos, ◌+ℤ◌, ◌-ℤ◌, ◌*ℤ◌, ◌≤ℤ◌, ◌<ℤ◌, int_le}
+use Rattle.std.specs.Prelude.{◌≡◌, ℕ, ◌+◌, ◌*◌, ℤ, pos, ◌+ℤ◌, ◌-ℤ◌, ◌*ℤ◌, ◌≤ℤ◌, ◌<ℤ◌}
 
 -- num/den
 pub record SignedFraction : Type 0 where
@@ -17,10 +17,6 @@ IsBelow v w = (v.num *ℤ pos w.den) <ℤ (w.num *ℤ pos v.den)
 -- Two fractions are one number.
 abbrev pub AreEqual : SignedFraction → SignedFraction → Type 0
 AreEqual v w = v.num *ℤ pos w.den ≡ w.num *ℤ pos v.den
-
--- The test of the order.
-abbrev pub is_at_most : SignedFraction → SignedFraction → Bool
-is_at_most v w = int_le (v.num *ℤ pos w.den) (w.num *ℤ pos v.den)
 
 -- num/den times v
 abbrev pub times : ℕ → ℕ → SignedFraction → SignedFraction

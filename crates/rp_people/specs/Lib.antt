@@ -5,6 +5,7 @@ pub mod Choices
 pub mod DividedLevels
 pub mod Fractions
 pub mod Money
+pub mod OfOnePreference
 pub mod Preferences
 pub mod Rationalizing
 pub mod Says

@@ -1,8 +1,8 @@
 -- Utilities of bundles (Afriat 1967; Varian 1982, Afriat's theorem). A utility gives each bundle a fraction.
-use Rattle.std.specs.Prelude.{ℕ, ◌+◌, ◌<◌, ◌≤◌, Bool}
+use Rattle.std.specs.Prelude.{ℕ, ◌+◌, ◌<◌, ◌≤◌}
 use Rattle.rp_evidence.specs.Demand.{FractionBundle}
 use Rattle.rp_people.specs.Bundles.{AreEqualInValue, HasMoreOfEveryGood, HasMoreOfSomeGood, IsBundle, mixture, multiple}
-use Rattle.rp_people.specs.Fractions.{AreEqual, IsAtMost, IsBelow, SignedFraction, average, is_at_most, times}
+use Rattle.rp_people.specs.Fractions.{AreEqual, IsAtMost, IsBelow, SignedFraction, average, times}
 
 -- A utility of bundles of these goods: a fraction for each bundle, the same for bundles that are equal in value.
 pub record IsUtilityOfBundles (goods : ℕ) (utility : FractionBundle → SignedFraction) : Type 0 where
@@ -11,8 +11,8 @@ pub record IsUtilityOfBundles (goods : ℕ) (utility : FractionBundle → Signed
       → AreEqual (utility x) (utility y)
 
 -- The preference of a utility: at least as good is what has at least as much utility.
-abbrev pub preference_of : (FractionBundle → SignedFraction) → FractionBundle → FractionBundle → Bool
-preference_of utility x y = is_at_most (utility y) (utility x)
+abbrev pub preference_of : (FractionBundle → SignedFraction) → FractionBundle → FractionBundle → Type 0
+preference_of utility x y = IsAtMost (utility y) (utility x)
 
 -- More of every good gives more.
 abbrev pub IsMonotone : ℕ → (FractionBundle → SignedFraction) → Type 0

@@ -1,5 +1,5 @@
 //! Afriat's theorem (Afriat 1967; Diewert 1973; Varian 1982) on choices of bundles of fractions.
-ghost use Rattle.std.specs.Prelude.{ℕ, ℤ, Bool};
+ghost use Rattle.std.specs.Prelude.{ℕ, ℤ};
 ghost use Rattle.rp_evidence.specs.Demand.{FractionBundle};
 ghost use Rattle.rp_people.specs.AfriatUtility.{HaveUtility, IsModelOfChoices};
 ghost use Rattle.rp_people.specs.Bundles.{HasMoreOfSomeGood, IsBundle};
@@ -8,28 +8,32 @@ ghost use Rattle.rp_people.specs.Fractions.{SignedFraction};
 ghost use Rattle.rp_people.specs.Preferences.{IsBetter, IsNonsatiated, IsNonsatiatedByValue};
 ghost use Rattle.rp_people.specs.Preferences.{IsNonsatiatedPreference, IsPreference, IsTransitive};
 ghost use Rattle.rp_people.specs.Preferences.{PrefersMore, TreatsAlikeByValue};
-ghost use Rattle.rp_people.specs.Rationalizing.{HasConcaveUtility, HasNonsatiatedPreference};
-ghost use Rattle.rp_people.specs.Rationalizing.{HasPreference, Rationalizes};
+ghost use Rattle.rp_people.specs.Rationalizing.{Fits, HasConcaveUtility};
+ghost use Rattle.rp_people.specs.Rationalizing.{HasNonsatiatedPreference, HasPreference};
+ghost use Rattle.rp_people.specs.Rationalizing.{Rationalizes};
 ghost use Rattle.rp_people.specs.Utilities.{IsMonotone, IsStrictlyMonotone, IsUtilityOfBundles};
 ghost use Rattle.rp_people.specs.Utilities.{preference_of};
 
-/// Where some locally nonsatiated preference rationalizes choices as they are held, there is no violation.
-pub fn preferences_meet_axiom()
-    ensures { (choices : Choices)
+use crate::relations::BundleRelation;
+
+/// Where some locally nonsatiated preference rationalizes choices as they are held, there is no violation: so it is of
+/// each such relation, whether or not any test decides it.
+pub fn preferences_meet_axiom<P: BundleRelation>()
+    ensures some { (choices : Choices)
         → AreChoices choices → HasNonsatiatedPreference choices → MeetAxiom choices }
+    ensures each { (choices : Choices)
+        → AreChoices choices → Fits choices P.prefers → MeetAxiom choices }
 {}
 
 /// A preference by which more of every good is better is locally nonsatiated, however fractions are written. Where
 /// bundles that are equal in value are the same, it makes no difference how they are written.
-pub fn monotone_preferences_are_nonsatiated()
-    ensures monotone { (goods : ℕ) (prefers : FractionBundle → FractionBundle → Bool)
-        → PrefersMore goods prefers
-        → IsNonsatiated goods prefers × IsNonsatiatedByValue goods prefers }
-    ensures by_value { (goods : ℕ) (prefers : FractionBundle → FractionBundle → Bool)
-        → IsTransitive prefers → TreatsAlikeByValue goods prefers
-        → IsNonsatiated goods prefers → IsNonsatiatedByValue goods prefers }
-    ensures preference { (goods : ℕ) (prefers : FractionBundle → FractionBundle → Bool)
-        → IsPreference goods prefers → IsNonsatiatedPreference goods prefers }
+pub fn monotone_preferences_are_nonsatiated<P: BundleRelation>()
+    ensures monotone { (goods : ℕ) → PrefersMore goods P.prefers
+        → IsNonsatiated goods P.prefers × IsNonsatiatedByValue goods P.prefers }
+    ensures by_value { (goods : ℕ) → IsTransitive P.prefers → TreatsAlikeByValue goods P.prefers
+        → IsNonsatiated goods P.prefers → IsNonsatiatedByValue goods P.prefers }
+    ensures preference { (goods : ℕ)
+        → IsPreference goods P.prefers → IsNonsatiatedPreference goods P.prefers }
 {}
 
 /// Where there is no violation, an Afriat model exists, and its utility is strictly monotone and concave and

@@ -6,6 +6,7 @@ mod axiom;
 mod bounds;
 mod homothetic;
 mod quasilinear;
+mod relations;
 mod says;
 mod tables;
 
@@ -19,6 +20,7 @@ pub use homothetic::{
     homothetic_test_gives_utility,
 };
 pub use quasilinear::{quasilinear_test_gives_worth, worths_meet_quasilinear_test};
+pub use relations::BundleRelation;
 pub use says::{proved_certificates_say, proved_items_say};
 pub use tables::{
     contradicting_pairs_survive_no_preference, index_divides_levels,

@@ -2,21 +2,21 @@
 -- from the first: scaled to (4, 4) over 3 it costs just 4 there, and at the other prices too; who keeps money is no
 -- person on these budgets. Who looks at the sum of both goods takes (4, 0) from the first and (0, 4) from the second, uses
 -- just the patches that these lie on, and makes the choices alone. The greatest share of persons is one number.
-use Rattle.std.proofs.Common.{◌≡◌, ℕ, zero, suc, ◌*◌, ◌<◌, ◌≤◌, List, [], ◌∷◌, None, true, false, ap, refl, slice_index, slice_index_or, subst, sym, arith}
+use Rattle.std.proofs.Common.{◌≡◌, ℕ, zero, suc, ◌*◌, ◌<◌, ◌≤◌, List, [], ◌∷◌, None, true, false, ap, refl, slice_index, slice_index_or, subst, arith}
 use Rattle.std.proofs.Math.Nat.{le_of_mul-le-mul_left, mul-le-mul_left, mul-pos}
-use Rattle.std.specs.Prelude.{Bool, Contains, pos, negsuc}
+use Rattle.std.specs.Prelude.{Contains, pos, negsuc}
 use Rattle.rp_table.specs.Spending.{spending}
 use Rattle.rp_evidence.specs.Demand.{FractionBundle}
 use Rattle.rp_patch.specs.Choices.{RandomInput}
 use Rattle.rp_patch.specs.Patches.{PatchList, units_at}
 use Rattle.rp_patch.specs.Signs.{cost_on, signs_of}
 use Rattle.rp_people.specs.Bundles.{CostsAtMost, HasMoreOfSomeGood, IsBundle}
-use Rattle.rp_people.specs.Preferences.{IsAtLeastAsGood, IsBetter, IsNonsatiatedPreference}
+use Rattle.rp_people.specs.Preferences.{IsAtLeastAsGood, IsBetter, IsNonsatiatedPreference, shown_by}
 use Rattle.rp_people.proofs.FactsOfPreferences.{by, by_is_preference, more_size, same_size, size, test}
 use Rattle.rp_people.proofs.Orders.{strict_is_better}
 use Rattle.rp_people.proofs.Rooms.{preference_is_nonsatiated}
 use Rattle.rp_persons.specs.PersonMixtures.{IsFullRandomInput, IsGreatestShareOfPersons, MakeChoices, MakePartOfChoices, PersonShare, SomePersonsMakeChoices, SomeWithUtilitiesMakeChoices, UsesListedPatches, weight_of_persons, weight_of_users}
-use Rattle.rp_persons.specs.Persons.{HasUtility, IsPersonOn, Person, scaled_choice, signs_of_bundle, uses_patch}
+use Rattle.rp_persons.specs.Persons.{HasUtility, IsPersonOn, Person, Tests, scaled_choice, signs_of_bundle, uses_patch}
 use Rattle.rp_persons.proofs.Populations.{with_utilities_make}
 
 abbrev two : RandomInput
@@ -44,7 +44,7 @@ above = refl
 below : signs_of_bundle two (record { den = 1; num = λ g. 1 }) ≡ negsuc 0 ∷ negsuc 0 ∷ []
 below = refl
 
-keeps_money : (prefers : FractionBundle → FractionBundle → Bool) → ¬ IsPersonOn two (record { prefers = prefers; bundle = λ j. record { den = 1; num = λ g. 1 } })
+keeps_money : (prefers : FractionBundle → FractionBundle → Type 0) → ¬ IsPersonOn two (λ (k : ℕ). prefers) (record { name = 0; bundle = λ j. record { den = 1; num = λ g. 1 } })
 keeps_money prefers is = let e = is.spent 0 (omega arith) in absurd (omega (arith, e))
 
 two_is_full : IsFullRandomInput two
@@ -67,13 +67,17 @@ two_is_full = record { some_goods = omega arith; positive_prices = prices; posit
 sum_is_nonsatiated : IsNonsatiatedPreference 2 (by size)
 sum_is_nonsatiated = preference_is_nonsatiated 2 (by size) (by_is_preference size 2 same_size more_size)
 
-abbrev takes : List (List ℕ) → Person
-takes bundles = record { prefers = by size; bundle = λ j. record { den = 1; num = slice_index (slice_index_or bundles j []) } }
+-- the preference of the name 0 looks at the sum of both goods
+abbrev by_sum : ℕ → FractionBundle → FractionBundle → Type 0
+by_sum k = by size
 
-abbrev summer : Person
+abbrev takes : List (List ℕ) → Person ℕ
+takes bundles = record { name = 0; bundle = λ j. record { den = 1; num = slice_index (slice_index_or bundles j []) } }
+
+abbrev summer : Person ℕ
 summer = takes ((4 ∷ 0 ∷ []) ∷ (0 ∷ 4 ∷ []) ∷ [])
 
-summer_is : IsPersonOn two summer
+summer_is : IsPersonOn two by_sum summer
 summer_is = record { preference = sum_is_nonsatiated; bundles = λ j l. omega arith; spent = spent; best = best }
   where
     spent : (j : ℕ) → j < 2 → spending 2 (two.price j) (summer.bundle j).num ≡ 1 * 4
@@ -86,7 +90,7 @@ summer_is = record { preference = sum_is_nonsatiated; bundles = λ j l. omega ar
     best (suc zero) l x ix h = (test _ _).1 (omega (arith, h))
     best (suc (suc j)) l x ix h = absurd (omega arith)
 
-takes_worse : ¬ IsPersonOn two (takes ((0 ∷ 2 ∷ []) ∷ (0 ∷ 4 ∷ []) ∷ []))
+takes_worse : ¬ IsPersonOn two by_sum (takes ((0 ∷ 2 ∷ []) ∷ (0 ∷ 4 ∷ []) ∷ []))
 takes_worse is = let e = is.best 0 (omega arith) (summer.bundle 0) (omega arith) (omega arith) in absurd cc
 
 -- ---- patches: both where the bundles lie, one of the first budget's signs on the second, and one with other signs
@@ -107,13 +111,13 @@ uses_both = (refl, refl)
 uses_no_other : (uses_patch two lists summer 2 ≡ false) × (uses_patch two lists summer 3 ≡ false)
 uses_no_other = (refl, refl)
 
-abbrev so_many : ℕ → PersonShare
+abbrev so_many : ℕ → PersonShare ℕ
 so_many k = record { person = summer; weight = k }
 
 users_weigh : (weight_of_users two lists (so_many 2 ∷ so_many 3 ∷ []) 0 ≡ 5) × (weight_of_users two lists (so_many 2 ∷ so_many 3 ∷ []) 2 ≡ 0) × (weight_of_persons (so_many 2 ∷ so_many 3 ∷ []) ≡ 5)
 users_weigh = (refl, refl, refl)
 
-one_alone : (k : ℕ) (P : PersonShare → Type 0) → P (so_many k) → (share : PersonShare) → Contains (so_many k ∷ []) share → P share
+one_alone : (k : ℕ) (P : PersonShare ℕ → Type 0) → P (so_many k) → (share : PersonShare ℕ) → Contains (so_many k ∷ []) share → P share
 one_alone k P here share (zero, l, e) = subst P e here
 one_alone k P here share (suc i, l, e) = absurd (omega (arith, l))
 
@@ -122,10 +126,10 @@ summer_lists zero l = (0, omega arith, refl, refl)
 summer_lists (suc zero) l = (1, omega arith, refl, refl)
 summer_lists (suc (suc j)) l = absurd (omega arith)
 
-three_make : MakeChoices two lists 1 (so_many 3 ∷ [])
+three_make : MakeChoices two lists by_sum 1 (so_many 3 ∷ [])
 three_make = record {
   fraction = omega arith;
-  choose_best = one_alone 3 (λ share. IsPersonOn two share.person) summer_is;
+  choose_best = one_alone 3 (λ share. IsPersonOn two by_sum share.person) summer_is;
   use_listed = one_alone 3 (λ share. UsesListedPatches two lists share.person) summer_lists;
   exact = exact;
 }
@@ -137,10 +141,10 @@ three_make = record {
     exact (suc (suc (suc zero))) l = refl
     exact (suc (suc (suc (suc i)))) l = absurd (omega arith)
 
-two_make_a_part : MakePartOfChoices two lists 1 (so_many 2 ∷ [])
+two_make_a_part : MakePartOfChoices two lists by_sum 1 (so_many 2 ∷ [])
 two_make_a_part = record {
   fraction = omega arith;
-  choose_best = one_alone 2 (λ share. IsPersonOn two share.person) summer_is;
+  choose_best = one_alone 2 (λ share. IsPersonOn two by_sum share.person) summer_is;
   use_listed = one_alone 2 (λ share. UsesListedPatches two lists share.person) summer_lists;
   within = within;
 }
@@ -152,18 +156,18 @@ two_make_a_part = record {
     within (suc (suc (suc zero))) l = omega arith
     within (suc (suc (suc (suc i)))) l = absurd (omega arith)
 
-two_make_not_all : ¬ MakeChoices two lists 1 (so_many 2 ∷ [])
+two_make_not_all : ¬ MakeChoices two lists by_sum 1 (so_many 2 ∷ [])
 two_make_not_all are = let e = are.exact 0 (omega arith) in absurd cc
 
-four_make_no_part : ¬ MakePartOfChoices two lists 1 (so_many 4 ∷ [])
+four_make_no_part : ¬ MakePartOfChoices two lists by_sum 1 (so_many 4 ∷ [])
 four_make_no_part are = let l = are.within 0 (omega arith) in absurd (omega (arith, l))
 
 -- ---- who has a utility has more of one good as better
 
-more_of_one_is_better : (input : RandomInput) (person : Person) → HasUtility input person → (x y : FractionBundle) → IsBundle x → IsBundle y → HasMoreOfSomeGood input.goods x y → IsBetter person.prefers x y
+more_of_one_is_better : (input : RandomInput) (person : Person Tests) → HasUtility input person → (x y : FractionBundle) → IsBundle x → IsBundle y → HasMoreOfSomeGood input.goods x y → IsBetter (shown_by person.name) x y
 more_of_one_is_better input person has x y ix iy more =
-    subst (λ (prefers : FractionBundle → FractionBundle → Bool). IsBetter prefers x y) (sym has.its_preference)
-    (strict_is_better input.goods has.utility has.concave_utility.utility_of_bundles has.concave_utility.strictly_monotone x y ix iy more)
+    let better = strict_is_better input.goods has.utility has.concave_utility.utility_of_bundles has.concave_utility.strictly_monotone x y ix iy more in
+    ((has.its_preference x y).1 better.0, λ back. better.1 ((has.its_preference y x).0 back))
 
 -- ---- the greatest share is one number, and yes and no exclude each other
 

@@ -1,6 +1,7 @@
 -- Proved items on random choices say of people what they say.
 use Rattle.std.proofs.Common.{ℕ, ◌*◌, List}
 use Rattle.std.specs.Prelude.{All, slice_index_or}
+use Rattle.rp_evidence.specs.Demand.{FractionBundle}
 use Rattle.rp_evidence.specs.declared.certificate.Item.{Item}
 use Rattle.rp_evidence.specs.declared.certificate.Item.TheVariants.{Garp as GarpItem, Afriat as AfriatItem}
 use Rattle.rp_evidence.specs.declared.certificate.Item.TheVariants.{Efficiency as EfficiencyItem}
@@ -13,8 +14,9 @@ use Rattle.rp_patch.specs.Kinds.{weight_of}
 use Rattle.rp_patch.specs.Patches.{IsPatchList, PatchList}
 use Rattle.rp_patch.specs.RandomEvidence.{ProvesOnPatches, ProvesRandom}
 use Rattle.rp_patch.proofs.GreatestShares.{shows_share}
+use Rattle.rp_persons.specs.OfAnyPersons.{SaysOfAny}
 use Rattle.rp_persons.specs.SaysRandom.{SaysOfChoices, SaysOnPatches}
-use Rattle.rp_persons.proofs.Populations.{mixtures_of_persons, shares_of_persons}
+use Rattle.rp_persons.proofs.Populations.{any_make, any_make_at_most, mixtures_of_persons, shares_of_persons}
 
 pub evidence_says : (p : PatchList) (total : ℕ) (part : RandomPart) → IsPatchList p → ProvesRandom p total part → SaysOfChoices p part
 evidence_says p total (Mixture den parts) valid proves = λ input asked full are. (
@@ -39,3 +41,11 @@ item_says p (RandomItem total part) valid proves = evidence_says p total part va
 
 pub items_say : (p : PatchList) (items : List Item) → IsPatchList p → All (ProvesOnPatches p) items → All (SaysOnPatches p) items
 items_say p items valid all k d l = item_says p (slice_index_or items k d) valid (all k d l)
+
+pub any_say : (p : PatchList) (total : ℕ) (part : RandomPart) → IsPatchList p → ProvesRandom p total part → (prefers : ℕ → FractionBundle → FractionBundle → Type 0) → SaysOfAny p prefers part
+any_say p total (Mixture den parts) valid proves prefers = λ input asked full are. tt
+any_say p total (Violated den parts weights) valid proves prefers = λ input asked full are. (
+  λ d persons make. proves.1.none (any_make input asked p are valid prefers d persons make),
+  any_make_at_most input asked p are valid prefers (weight_of parts) (den * p.total) (shows_share p valid total (Violated den parts weights) proves),
+)
+any_say p total (Wide step) valid proves prefers = λ input asked full are. tt

@@ -103,7 +103,7 @@ module _ (input : RandomInput) (p : PatchList) (budgets : p.budgets ≡ input.bu
   )
 
   -- the person uses the patches of the type, and no others
-  module _ (numbered : AreNumberedByFirstChoice input p) (on_budgets : (i : ℕ) → i < length p.patches → budget_at p i < p.budgets) (person : Person) (its : person.bundle ≡ bundle) where
+  module _ (numbered : AreNumberedByFirstChoice input p) (on_budgets : (i : ℕ) → i < length p.patches → budget_at p i < p.budgets) {Names : Type 0} (person : Person Names) (its : person.bundle ≡ bundle) where
     signs_on : (j : ℕ) → j < input.budgets → signs_of_bundle input (person.bundle j) ≡ (patch_at p (slice_index type j)).signs
     signs_on j l = ap (λ (b : ℕ → FractionBundle). signs_of_bundle input (b j)) its ∙ is.alike j l
 

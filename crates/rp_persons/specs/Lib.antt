@@ -1,3 +1,4 @@
+pub mod OfAnyPersons
 pub mod PersonMixtures
 pub mod Persons
 pub mod SaysRandom

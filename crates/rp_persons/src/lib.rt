@@ -3,8 +3,10 @@
 #![tactic(auto)]
 
 mod laws;
+mod relations;
 
 pub use laws::{
     chosen_bundles_scale, greatest_shares_are_of_persons, mixtures_are_of_persons,
     proved_random_items_say,
 };
+pub use relations::PersonRelations;
