@@ -1,22 +1,22 @@
 # A panel: the row of each household of one long frame, on all processors. The frame becomes long files with a column of ids, households
 # in blocks, and the rows are those of the call of panels (`long.R`).
 
-rp_panel <- function(data, id, ask = c("test", "pump", "power"), digits = NULL, levels = NULL, seed = NULL, draws = 1000, workers = NULL,
-                     numbers = "exact", progress = interactive(), exe = NULL, wide = TRUE) {
+rp_panel <- function(data, id, ask = c("test", "pump", "power"), decimals = digits, levels = NULL, seed = NULL, draws = 1000, workers = NULL,
+                     numbers = "shortest", progress = interactive(), exe = NULL, wide = TRUE, digits = NULL) {
   kind <- chosen(ask, c("test", "pump", "power"), "ask")
   data <- plain_frame(data)
   if (!is_switch(progress)) bad_data("progress is TRUE or FALSE")
   if (!is_switch(wide)) bad_data("wide is TRUE or FALSE")
   workers <- if (is.null(workers)) processors() else as.integer(whole_word(workers, "workers", "1", "4096"))
   sides <- panel_sides(data, id, levels)
-  digits <- forms_of(digits, numbers)
+  forms <- forms_of(decimals, numbers)
   if (kind == "power" && is.null(seed)) bad_data("there is no seed: give the argument seed, a whole number")
   if (kind != "test" && !is.null(sides$levels)) {
     stop(refused("OwnLevels", hint = plain_hint("OwnLevels")))
   }
   if (kind == "pump" && sides$own_money) bad_data("the money pump: ", own_money)
   words <- panel_words(kind, seed, draws, wide)
-  long <- long_sheet(data, id, sides, digits)
+  long <- long_sheet(data, id, sides, forms)
   engine <- panel_engine(exe)
   some <- function(numbers) panel_rows(long, numbers, words, engine)
   # A few households are asked about by one call.
@@ -32,8 +32,8 @@ rp_panel <- function(data, id, ask = c("test", "pump", "power"), digits = NULL, 
   # A fault is told with its place in the frame.
   for (at in which(nzchar(texts[, "fault"]))) texts[at, c("record", "column")] <- told_place(refusals[[at]])
   of <- list(
-    keys = keys, texts = texts, refusals = refusals, ask = kind, data = data, id = id, digits = digits, levels = sides$levels, own_money = sides$own_money,
-    places = long$rows, sides = sides
+    keys = keys, texts = texts, refusals = refusals, ask = kind, data = data, id = id, forms = forms, levels = sides$levels, own_money = sides$own_money,
+    places = long$rows, sides = sides, numbers = numbers_line(long)
   )
   structure(of, class = "rp_panel")
 }
@@ -87,7 +87,7 @@ table_in <- function(panel, at) {
     goods = sides$goods, prices = lapply(sides$prices, `[`, rows), quantities = lapply(sides$quantities, `[`, rows),
     labels = sides$labels[rows], levels = if (!is.null(sides$levels)) sides$levels[rows], left_out = sides$left_out, own_money = sides$own_money
   )
-  suppressWarnings(table_of_sides(part, panel$digits, id_advice(panel$id)))
+  suppressWarnings(table_of_sides(part, panel$forms, id_advice(panel$id)))
 }
 
 # Returns how many processes run at once: as many as there are processors, or two where R's checks ask for that. Windows has no
@@ -140,6 +140,7 @@ as.data.frame.rp_panel <- function(x, row.names = NULL, optional = FALSE, ...) {
 
 print.rp_panel <- function(x, ...) {
   print(as.data.frame(x), ...)
+  if (!is.null(x$numbers)) cat(x$numbers, "\n", sep = "")
   invisible(x)
 }
 

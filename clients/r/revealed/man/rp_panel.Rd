@@ -11,9 +11,9 @@ its fault, and the others go on; where all have the same, the call stops with it
 ids, without the blanks round them. A row without an id is no household's, and has a row of its own behind them.
 }
 \usage{
-rp_panel(data, id, ask = c("test", "pump", "power"), digits = NULL, levels = NULL,
-  seed = NULL, draws = 1000, workers = NULL, numbers = "exact", progress = interactive(),
-  exe = NULL, wide = TRUE)
+rp_panel(data, id, ask = c("test", "pump", "power"), decimals = digits, levels = NULL,
+  seed = NULL, draws = 1000, workers = NULL, numbers = "shortest",
+  progress = interactive(), exe = NULL, wide = TRUE, digits = NULL)
 }
 \arguments{
 \item{data}{a data frame with columns \code{p_NAME} and \code{q_NAME} for each good, and perhaps \code{obs} and \code{e}. The
@@ -22,7 +22,7 @@ rows of a household need not stand together. Budget lines of two goods may be ke
 pumps are not asked of it, and \code{quasilinear} is \code{NA}.}
 \item{id}{the name of the column, or of the columns, that tell the households apart.}
 \item{ask}{what is asked of each: the verdicts, and beside them the greatest money pump ratio, or the power of the test.}
-\item{digits, levels, numbers, exe, wide}{as for \code{\link{rp_test}}. What fits is told by all households together.}
+\item{decimals, levels, numbers, exe, wide, digits}{as for \code{\link{rp_test}}. What fits is told by all households together.}
 \item{seed, draws}{as for \code{\link{rp_power}}, the same for each household.}
 \item{workers}{how many run at once; else as many as there are processors, two where R's checks ask for that, and one on Windows.}
 \item{progress}{whether a bar is shown, on standard error.}
