@@ -6,8 +6,11 @@ The frame becomes long texts with a column of ids, households in blocks, and the
 from __future__ import annotations
 
 import os
+from collections import Counter
 from fractions import Fraction
 from functools import cached_property, partial
+from html import escape
+from statistics import fmean
 from typing import Any, Callable, Iterable, Iterator, NamedTuple, Sequence
 
 from . import clusters, exact, program
@@ -18,11 +21,13 @@ from .commands import analyse
 from .exact import AS_THEY_ARE
 from .faults import AllRefused, BadData, NoProgram, Pooled, Refused, WrongColumns
 from .frames import Frame, near, own_labels, prices_of, values_of
-from .long_call import BLANKS, COLUMNS, DECIDING, ID_BYTES, LONG, Asked, answered, in_turn, line_of
+from .long_call import BLANKS, COLUMNS, DECIDING, ID_BYTES, LONG, OF_ID, Asked, answered, in_turn, line_of
 from .tables import OWN_MONEY, Forms, Sheet, Table, forms_of, takes_places
 
 # Fewer households than this are asked about by this thread alone, and no more in one call.
 FEW, BLOCK = 50, 200
+# So many rows are shown of a panel.
+SHOWN = 6
 HOUSEHOLD = "household"
 KEYS = "ids"
 # Without this hint a number that no decimal is has a text that is refused as it is.
@@ -134,6 +139,51 @@ class Panel(list):
         self.by = list(by)
         self.asked = list(asked)
         self.numbers: str | None = None
+
+    def __getitem__(self, at: Any) -> Any:
+        """Returns a row, or of a slice a panel of these rows."""
+        found = super().__getitem__(at)
+        if not isinstance(at, slice):
+            return found
+        part = Panel(self.by, found, self.asked)
+        part.numbers = self.numbers
+        return part
+
+    def faults(self) -> list[dict[str, Any]]:
+        """Returns why households have no verdicts, the most frequent cause first: each `fault`, how many have it, `count`, and the key
+        and the message of the first."""
+        first = {row.fault: row for row in reversed(self) if row.fault is not None}
+        counts = Counter(row.fault for row in self if row.fault is not None)
+        return [{"fault": it, "count": count, "key": first[it].key, "message": first[it].message} for it, count in counts.most_common()]
+
+    def said(self) -> list[str]:
+        """Returns what is said of the panel as a whole, in a few lines."""
+        own = [row for row in self if row.fault is None]
+        unnamed = sum(row.fault in OF_ID for row in self)
+        lines = [f"panel of {len(self) - unnamed:,} households by {', '.join(map(repr, self.by))}, {len(own):,} with verdicts"]
+        if own:
+            index = [row.efficiency_floor for row in own if row.efficiency_floor is not None]
+            holds = sum(row.garp is True for row in own)
+            lines.append(f"garp holds {holds:,}, violated {len(own) - holds:,}; efficiency (CCEI) mean {fmean(index):.4f}, minimum {min(index):.6f}")
+        lines += [f"{it['count']:,} without verdicts: {it['fault']}, the first {it['key']!r}" for it in self.faults()]
+        return lines + ([f"numbers: {self.numbers}"] if self.numbers else [])
+
+    def __repr__(self) -> str:
+        more = len(self) - SHOWN
+        rows = [repr(row).partition("\n")[0] for row in self[:SHOWN]]
+        return "\n".join([*self.said(), *rows, *([f".. and {more:,} rows more: .frame() and .records() have all"] if more > 0 else [])])
+
+    def _repr_html_(self) -> str:
+        """Returns what a notebook shows: what is said of the panel, and its first rows as a table."""
+        names = [*self.by, *(name for name in COLUMNS[1:] if any(row.texts[name] for row in self[:SHOWN]))]
+        heads = "".join(f"<th>{escape(str(name))}</th>" for name in names)
+        rows = []
+        for row in self[:SHOWN]:
+            cells = [*map(str, self.keys(row)), *(row.texts[name] for name in names[len(self.by) :])]
+            rows.append("<tr>" + "".join(f"<td>{escape(cell)}</td>" for cell in cells) + "</tr>")
+        more = f"<p>.. and {len(self) - SHOWN:,} rows more</p>" if len(self) > SHOWN else ""
+        said = "<br>".join(map(escape, self.said()))
+        return f"<p>{said}</p><table><thead><tr>{heads}</tr></thead><tbody>{''.join(rows)}</tbody></table>{more}"
 
     def names(self) -> list[str]:
         """Returns the names of what a record has: the columns by which households are told apart, and those of each panel."""
