@@ -240,10 +240,28 @@ def verify(data: Any, certificate: Any = None, *, per: Any = None) -> Findings:
         return verifier.verify_menus(files.get(MENUS, files.get(TABLE, b"")), claimed, per)
     if TABLE in files:
         is_report = claimed.lstrip().startswith(b"observations ")
-        return verifier.verify_pump(files[TABLE], claimed) if is_report else verifier.verify_table(files[TABLE], claimed)
+        found = verifier.verify_pump(files[TABLE], claimed) if is_report else verifier.verify_table(files[TABLE], claimed)
+        return told_of_prices(found) if getattr(_table_of(data), "own_money", False) else found
     if BUDGETS in files:
         return verifier.verify_choices(files[BUDGETS], files[CHOICES], claimed, per)
     raise BadData("a certificate is on a table or on choices from budgets; on menus and on firms there are reports")
+
+
+def _table_of(data: Any) -> Any:
+    """Returns the table that some data are, or have."""
+    try:
+        return data.table if hasattr(data, "table") else data if isinstance(data, Table) else table(*data) if isinstance(data, tuple) else table(data)
+    except (BadData, TypeError):
+        return None
+
+
+def told_of_prices(found: Findings) -> Findings:
+    """Returns what was found of a table whose prices are intercepts exchanged: an item that adds money of different rows proves its
+    verdict of these prices, and tells nothing of the data."""
+    for item in found.items:
+        if item.kind in ("quasilinear", "pump"):
+            item.says = f"{item.says} on the exchanged intercepts as prices of one unit of money, which is not told of the data"
+    return found
 
 
 def _as_firm(files: dict[str, bytes]) -> dict[str, bytes]:

@@ -51,9 +51,11 @@ class Row:
         self._own = own
         self._verdict: Verdict | None = None
         it = self.texts
+        if self.own_money:
+            # The call was given prices, and says what is so of these. Of the data this test is not told: see `message`.
+            it["quasilinear"] = ""
         self.observations, self.goods, self.record, self.column = (_whole(it[name]) for name in ("observations", "goods", "record", "column"))
-        self.garp, self.attained, self.homothetic = (TRUTH.get(it[name]) for name in ("garp", "attained", "homothetic"))
-        self.quasilinear = None if self.own_money else TRUTH.get(it["quasilinear"])
+        self.garp, self.attained, self.homothetic, self.quasilinear = (TRUTH.get(it[name]) for name in ("garp", "attained", "homothetic", "quasilinear"))
         self.efficiency, self.pump, self.power = (_fraction(it[name]) for name in ("efficiency", "pump", "power"))
         self.efficiency_floor, self.pump_floor = (_number(it[name]) for name in ("efficiency_floor", "pump_floor"))
         self.fault: str | None = it["fault"] or None
