@@ -158,6 +158,6 @@ print.rp_trial <- function(x, ...) {
 as.data.frame.rp_trial <- function(x, row.names = NULL, optional = FALSE, ...) {
   frame_of(c(
     list(seed = x$words[1], rows = as.integer(x$words[2]), goods = as.integer(x$words[3]), garp = x$garp),
-    beside("ccei", x$efficiency, exact_name = "efficiency"), unclass(x)[c("attained", "homothetic", "quasilinear")]
+    list(ccei = x$ccei), beside("efficiency", x$efficiency), unclass(x)[c("attained", "homothetic", "quasilinear")]
   ))
 }

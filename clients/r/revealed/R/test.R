@@ -160,7 +160,7 @@ frame_of <- function(columns) structure(columns, class = "data.frame", row.names
 
 verdict_row <- function(x) {
   frame_of(c(
-    list(garp = x$garp, afriat = x$afriat), beside("ccei", x$efficiency, exact_name = "efficiency"),
+    list(garp = x$garp, afriat = x$afriat, ccei = nearest_double(x$efficiency)), beside("efficiency", x$efficiency),
     list(
       attained = x$attained, homothetic = x$homothetic, quasilinear = x$quasilinear, wide = paste(x$wide, collapse = " "),
       reasons = paste(reason_lines(x$reasons), collapse = "; ")

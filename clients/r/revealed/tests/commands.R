@@ -186,12 +186,25 @@ for (name in c("q_x", "q_y")) many[[name]] <- sample(1:9, 150, TRUE)
 people <- rp_panel(many, "id", workers = 2)
 frame <- as.data.frame(people)
 frame$age <- 20 + frame$id
-stopifnot(is.logical(frame$garp), is.double(frame$efficiency_floor), identical(frame$efficiency_floor == 1, texts(frame$efficiency) == "1"))
-stopifnot(all(diff(frame$efficiency_floor[order(frame$efficiency)]) >= 0), is.finite(coef(lm(efficiency_floor ~ age, frame))), mean(frame$garp) < 1)
+stopifnot(is.logical(frame$garp), is.double(frame$efficiency_floor), identical(frame$efficiency_floor == 1, texts(frame$efficiency_exact) == "1"))
+# a panel is a data frame, and an index is a number for every function of R
+stopifnot(is.data.frame(people), identical(people$garp, frame$garp), identical(people[["ccei"]], frame$ccei), identical(people[people$garp, ], frame[frame$garp, names(people)]))
+stopifnot(identical(class(people[1:2, ]), "data.frame"), nrow(head(people, 3)) == 3, identical(names(people)[1:6], c("id", "observations", "goods", "garp", "ccei", "efficiency")))
+for (index in c("ccei", "efficiency")) {
+  x <- frame[[index]]
+  half <- x[1:15]
+  stopifnot(identical(class(x), "numeric"), is.finite(coef(lm(x ~ frame$age))), is.finite(t.test(x)$p.value), nlevels(cut(x, 3)) == 3)
+  stopifnot(sum(hist(x, plot = FALSE)$counts) == 30, is.finite(cor(x, frame$age)), is.numeric(round(x, 2)), identical(x == 1, frame$efficiency_exact == 1))
+  stopifnot(is.finite(coef(lm(stats::reformulate("age", index), frame))), is.finite(t.test(half, x)$p.value))
+}
+stopifnot(is.double(as.data.frame(rp_test(P, P))$ccei), identical(as.data.frame(rp_test(P, P))$efficiency, 0.8), identical(round(rp_test(P, P)$efficiency, 1), 0.8))
+shown <- capture.output(print(people))
+stopifnot(length(shown) <= 12, startsWith(shown[1], "panel of 30 households by 'id', 30 with verdicts"), any(grepl("24 rows more", shown)))
+stopifnot(all(diff(frame$efficiency_floor[order(frame$efficiency_exact)]) >= 0), is.finite(coef(lm(efficiency_floor ~ age, frame))), mean(frame$garp) < 1)
 stopifnot(sum(hist(frame$efficiency_floor, plot = FALSE)$counts) == 30, nrow(rbind(frame, frame)) == 60, nrow(merge(frame, frame["id"])) == 30)
 path <- tempfile()
 write.csv(frame, path, row.names = FALSE)
-stopifnot(identical(read.csv(path, colClasses = c(efficiency = "character"))$efficiency, texts(frame$efficiency)))
+stopifnot(identical(read.csv(path, colClasses = c(efficiency_exact = "character"))$efficiency_exact, texts(frame$efficiency_exact)))
 capture.output(summary(frame), str(frame), print(frame))
 
 # ---- panels of the money pump and of power
