@@ -3,12 +3,12 @@ function verdict = rp_analyse(p, q, varargin)
 %
 %   v = rp_analyse(p, q)             p and q are matrices: a row for each observation, a column for each good
 %   v = rp_analyse(p, q, 'Levels', e)                e(t), whole thousandths, is the level of observation t alone (Varian 1990)
-%   v = rp_analyse(p, q, 'Places', [2 0])            prices are rounded to 2 places, quantities to none
-%   v = rp_analyse(p, q, 'Numbers', 'shortest')      a double is the shortest decimal that gives it back: 3.18 is 3.18
+%   v = rp_analyse(p, q, 'Decimals', [2 0])          prices are rounded to 2 decimal places, quantities to none
+%   v = rp_analyse(p, q, 'Numbers', 'exact')         a double is the binary fraction that it is, so 3.18 is refused
 %   v = rp_analyse(p, q, 'Wide', false)              the library as it is, and not what its wider edition gives beside
 %
-% A double goes to the library exactly as it is: 0.5 is a half, and 3.18, a binary fraction of 51 places, is refused. Whole
-% types and cell arrays of texts ({'3.18', '1'; ..}) are taken as they are. v has the fields
+% A double is taken as the shortest decimal that gives it back: 3.18 is 3.18. One that needs more than 6 decimal places is refused.
+% Whole types and cell arrays of texts ({'3.18', '1'; ..}) are taken as they are. v has the fields
 %
 %   garp          true or false: the generalized axiom (Varian 1982)
 %   ranks, cycle  what shows it: ranks of the observations, or a violating cycle
@@ -19,12 +19,13 @@ function verdict = rp_analyse(p, q, varargin)
 %   quasilinear   the quasilinear test, with quasilinear_cycle
 %   reasons       of what is withheld, the line of the report
 %   wide          the names of what rp itself withholds, and its wider edition gives: {'homothetic'}, or none
+%   numbers       'shortest decimals of doubles' where a double was taken for a decimal that is another number, else ''
 %   text          the report itself, whose numbers are exact
 %
 % Proved is the library, and not this function, which reads its report.
 %
 % See also rp_demand, rp_welfare, rp_panel, rp_plot.
-  known = struct('Levels', [], 'Places', [], 'Numbers', 'exact', 'Names', {{}}, 'Wide', true);
+  known = struct('Levels', [], 'Decimals', [], 'Numbers', 'shortest', 'Names', {{}}, 'Wide', true);
   options = rp_options(varargin, known);
   file = rp_table(p, q, options);
   [text, stated] = rp_wider({'analyse', file.name}, file, options);
@@ -89,5 +90,6 @@ function verdict = rp_analyse(p, q, varargin)
   if ~isequaln(verdict.homothetic, NaN) && ~strcmp(text, stated)
     verdict.wide = {'homothetic'};
   end
+  verdict.numbers = rp_taken(options, {p, 1}, {q, 2});
   verdict.text = text;
 end

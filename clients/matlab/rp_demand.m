@@ -13,7 +13,7 @@ function found = rp_demand(p, q, new, m, varargin)
 %   text           the lines of the report, whose numbers are exact, in units of the last decimal places
 %
 % See also rp_analyse, rp_welfare.
-  options = rp_options(varargin, struct('Places', [], 'Numbers', 'exact', 'Names', {{}}, 'Wide', true));
+  options = rp_options(varargin, struct('Decimals', [], 'Numbers', 'shortest', 'Names', {{}}, 'Wide', true));
   [table, told] = rp_table(p, q, options);
   budgets = rp_new(new, m, told.names, options);
   [text, stated] = rp_wider({'demand', table.name, budgets.name}, [table, budgets], options);

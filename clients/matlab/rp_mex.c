@@ -134,24 +134,49 @@ static int places_of(double number) {
     return exponent >= 53 ? 0 : exponent > -1021 ? 53 - exponent : 1074;
 }
 
-/* Writes a double as a decimal: exactly as it is (places -2), the shortest (-1), or rounded. What is no number stays none. */
-static void decimal(char *text, double number, int places) {
+/* Rounds a decimal to so many places, half to even. `text` has room for a digit more. */
+static void rounded(char *text, int places) {
+    char *point = strchr(text, '.'), *first = text + (*text == '-');
+    if (!point || (int)strlen(point + 1) <= places) return;
+    char *rest = point + 1 + places, *last = places ? rest - 1 : point - 1;
+    int is_more = *rest > '5' || (*rest == '5' && strspn(rest + 1, "0") < strlen(rest + 1));
+    int is_up = is_more || (*rest == '5' && (*last - '0') % 2);
+    *(places ? rest : point) = 0;
+    if (!is_up) return;
+    char *at = last;
+    while (at >= first && (*at == '9' || *at == '.')) {
+        if (*at == '9') *at = '0';
+        at--;
+    }
+    if (at >= first) {
+        ++*at;
+    } else {
+        memmove(first + 1, first, strlen(first) + 1);
+        *first = '1';
+    }
+}
+
+/* Writes a double as a decimal: exactly as it is (places -2), the shortest (-1), or rounded, the shortest or the double itself. What is
+   no number stays none. */
+static void decimal(char *text, double number, int places, int of_shortest) {
     if (!isfinite(number)) {
         strcpy(text, isnan(number) ? "NaN" : number < 0 ? "-Inf" : "Inf");
         return;
     }
-    if (places == -1) shortest(text, number);
-    else snprintf(text, LONGEST, "%.*f", places < 0 ? places_of(number) : places, number);
+    if (places == -1 || of_shortest) {
+        shortest(text, number);
+        if (places >= 0) rounded(text, places);
+    } else snprintf(text, LONGEST, "%.*f", places < 0 ? places_of(number) : places, number);
     plain(text);
 }
 
-static mxArray *decimals(const mxArray *numbers, int places) {
+static mxArray *decimals(const mxArray *numbers, int places, int of_shortest) {
     if (!mxIsDouble(numbers) || mxIsComplex(numbers) || mxIsSparse(numbers)) mexErrMsgIdAndTxt("rp:BadData", "numbers are real, full doubles");
     mxArray *texts = mxCreateCellMatrix(mxGetM(numbers), mxGetN(numbers));
     const double *at = mxGetPr(numbers);
     char text[LONGEST];
     for (size_t it = 0; it < mxGetNumberOfElements(numbers); it++) {
-        decimal(text, at[it], places);
+        decimal(text, at[it], places, of_shortest);
         mxSetCell(texts, it, mxCreateString(text));
     }
     return texts;
@@ -159,11 +184,11 @@ static mxArray *decimals(const mxArray *numbers, int places) {
 
 void mexFunction(int given, mxArray *answer[], int count, const mxArray *arguments[]) {
     if (count == 1) {
-        answer[0] = decimals(arguments[0], -2);
-    } else if (count == 2) {
+        answer[0] = decimals(arguments[0], -2, 0);
+    } else if (count == 2 || (count == 3 && mxIsDouble(arguments[0]))) {
         double places = mxGetScalar(arguments[1]);
         if (!(places >= -1 && places <= 1000)) mexErrMsgIdAndTxt("rp:BadData", "places are from 0 on");
-        answer[0] = decimals(arguments[0], (int)places);
+        answer[0] = decimals(arguments[0], (int)places, count == 3);
     } else if ((count == 3 || count == 4) && mxIsCell(arguments[0]) && mxIsCell(arguments[1]) && mxIsCell(arguments[2])) {
         call(given, answer, arguments[0], arguments[1], arguments[2], count == 4 ? call_of(arguments[3]) : rp_answer);
     } else {

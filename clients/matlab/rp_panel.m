@@ -9,7 +9,7 @@ function found = rp_panel(t, key, varargin)
 %   r = rp_panel(.., 'Wide', false)            the library as it is, and not what its wider edition gives beside
 %
 % Rows stand in the order in which they were chosen; households come in the order in which they first appear, and behind them the
-% rows that have no household. Blanks round a key are cut. 'Places' and 'Numbers' are those of rp_analyse. r is a struct array, of
+% rows that have no household. Blanks round a key are cut. 'Decimals' and 'Numbers' are those of rp_analyse. r is a struct array, of
 % which struct2table makes a table; the key has its own name, and the other fields are those of every table of households:
 %
 %   observations, goods               how many the household has
@@ -22,7 +22,7 @@ function found = rp_panel(t, key, varargin)
 % A household with a fault takes no other with it. Where all have the same, that is an error.
 %
 % See also rp_analyse.
-  known = struct('Pump', false, 'Power', [], 'Seed', 1, 'Wide', true, 'Places', [], 'Numbers', 'exact');
+  known = struct('Pump', false, 'Power', [], 'Seed', 1, 'Wide', true, 'Decimals', [], 'Numbers', 'shortest');
   options = rp_options(varargin, known);
   words = [{'long.csv', '--id', 'household'}, rp_asked(options)];
   long = rp_long(t, key, options);

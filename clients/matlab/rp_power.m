@@ -4,7 +4,7 @@ function found = rp_power(p, q, seed, draws, varargin)
 %   w = rp_power(p, q, seed, draws)   w.violations of w.draws behaviours; w.power is their share
 %
 % Options are those of rp_analyse, without levels. The same seed gives the same behaviours, here and in every other client.
-  options = rp_options(varargin, struct('Places', [], 'Numbers', 'exact', 'Names', {{}}));
+  options = rp_options(varargin, struct('Decimals', [], 'Numbers', 'shortest', 'Names', {{}}));
   file = rp_table(p, q, options);
   words = {'power', file.name, rp_whole(seed, 'the seed'), rp_whole(draws, 'the number of draws')};
   text = rp_ask(words, file);

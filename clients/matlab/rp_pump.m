@@ -5,7 +5,7 @@ function found = rp_pump(p, q, varargin)
 %   m = rp_pump(p, q)      m.ratio is exact, as a text such as '1/5'; m.pump is the nearest double; m.cycle has the ratio
 %
 % Options are those of rp_analyse, without levels.
-  options = rp_options(varargin, struct('Places', [], 'Numbers', 'exact', 'Names', {{}}));
+  options = rp_options(varargin, struct('Decimals', [], 'Numbers', 'shortest', 'Names', {{}}));
   file = rp_table(p, q, options);
   text = rp_ask({'pump', file.name}, file);
   lines = rp_lines(text);

@@ -17,7 +17,7 @@ function verdict = rp_random(p, w, budget, q, n, varargin)
 %   text          the report itself, whose numbers are exact
 %
 % Shares are taken as exact: what a sample leaves to chance is not looked at. Patches are told in docs/reference/files.md.
-  options = rp_options(varargin, struct('Per', [], 'Places', [], 'Numbers', 'exact', 'Names', {{}}, 'Wide', true));
+  options = rp_options(varargin, struct('Per', [], 'Decimals', [], 'Numbers', 'shortest', 'Names', {{}}, 'Wide', true));
   goods = size(p, 2);
   names = options.Names;
   if isempty(names)

@@ -12,7 +12,7 @@ function found = rp_welfare(p, q, new, varargin)
 %   text    the lines of the report, whose numbers are exact
 %
 % See also rp_analyse, rp_demand.
-  options = rp_options(varargin, struct('Places', [], 'Numbers', 'exact', 'Names', {{}}, 'Wide', true));
+  options = rp_options(varargin, struct('Decimals', [], 'Numbers', 'shortest', 'Names', {{}}, 'Wide', true));
   [table, told] = rp_table(p, q, options);
   [asked, places] = rp_new(new, [], told.names, options);
   [text, stated] = rp_wider({'welfare', table.name, asked.name}, [table, asked], options);

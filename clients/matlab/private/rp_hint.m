@@ -2,9 +2,8 @@ function hint = rp_hint(fault)
 % RP_HINT  What to do about a fault, behind a colon; nothing where there is nothing to say.
   switch fault
     case 'TooManyDecimals'
-      hint = [': at most 6 decimal places are taken, and a double such as 3.18 has more; nothing is rounded unasked: ', ...
-        '''Places'', [2 0] rounds prices and quantities to so many places, ''Numbers'', ''shortest'' takes the shortest decimal ', ...
-        'that gives the double back, and texts such as {''3.18''} are taken as they are'];
+      hint = [': it needs more than 6 decimal places. ''Decimals'', [2 0] rounds prices and quantities to so many decimal places. ', ...
+        'Rounded prices can change a verdict. ''Numbers'', ''shortest'', the default, takes each double as the shortest decimal that gives it back'];
     case 'TooLarge'
       hint = ': prices, and quantities, are at most 9,999,999 in units of their last decimal place; fewer places leave more room';
     case 'OwnLevels'
@@ -20,7 +19,7 @@ function hint = rp_hint(fault)
     case 'LongId'
       hint = ': the name of a household has at most 256 bytes';
     case 'TooManyRecords'
-      hint = ': a table, or a household, has at most 512 rows: name more columns that tell households apart';
+      hint = ': a table, or a household, has at most 512 observations: test parts of its observations apart, such as years';
     case 'Pooled'
       hint = ': a label of obs stands there twice, as where several households are one: name more columns that tell them apart';
     otherwise

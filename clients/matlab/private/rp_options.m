@@ -6,12 +6,16 @@ function chosen = rp_options(given, known)
   end
   for at = 1:2:numel(given)
     name = given{at};
+    if ischar(name) && strcmp(name, 'Places') && isfield(chosen, 'Decimals')
+      % Its older name.
+      name = 'Decimals';
+    end
     if ~ischar(name) || ~isfield(known, name)
       error('rp:BadData', 'the options here are %s, and not %s', strjoin(fieldnames(known)', ', '), char(name));
     end
     chosen.(name) = given{at + 1};
   end
-  if isfield(chosen, 'Numbers') && ~any(strcmp(chosen.Numbers, {'exact', 'shortest'}))
-    error('rp:BadData', '''Numbers'' is ''exact'' or ''shortest''');
+  if isfield(chosen, 'Numbers') && ~any(strcmp(chosen.Numbers, {'shortest', 'exact'}))
+    error('rp:BadData', '''Numbers'' is ''shortest'' or ''exact''');
   end
 end

@@ -1,6 +1,5 @@
 function texts = rp_texts(numbers, what, how)
-% RP_TEXTS  Numbers as decimals: doubles exactly as they are, unless HOW says otherwise; whole types and texts as they are.
-% HOW is [] (exact), 'shortest', or how many places. They are fields of a file.
+% RP_TEXTS  Numbers as decimals: doubles as HOW says (see RP_HOW), whole types and texts as they are. They are fields of a file.
   if isa(numbers, 'string')
     numbers = cellstr(numbers);
   end
@@ -15,8 +14,10 @@ function texts = rp_texts(numbers, what, how)
       texts = rp_mex(full(numbers));
     elseif ischar(how)
       texts = rp_mex(full(numbers), -1);
+    elseif iscell(how)
+      texts = rp_mex(full(numbers), how{1});
     else
-      texts = rp_mex(full(numbers), how);
+      texts = rp_mex(full(numbers), how, true);
     end
   elseif isa(numbers, 'single')
     error('rp:BadData', '%s are of class single: say double(x), and round as you mean it', what);

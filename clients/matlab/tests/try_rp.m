@@ -82,16 +82,22 @@ for own = {8, 'TooManyTypes'; 11, 'TooManyCombinations'; 13, 'TooManyPatches'}'
   same({r.rational, r.share, r.wide, size(r.types, 2)}, {true, '1', true, 2 * own{1}}, 'a mixture of choices that rp refuses');
 end
 
-% Numbers: each double exactly as it is, and nothing rounded unasked.
+% Numbers: the shortest decimal of each double, or the double itself, and nothing rounded unasked.
 same(rp_mex([0.5 -0 3.18; 100 0.1 9999999]), {'0.5', '0', '3.180000000000000159872115546022541821002960205078125'; ...
   '100', '0.1000000000000000055511151231257827021181583404541015625', '9999999'}, 'exact decimals');
 same(rp_mex([3.18 0.1 1e-7 123.456 1e22 5e-324 0 -2.5], -1), {'3.18', '0.1', '0.0000001', '123.456', '10000000000000000000000', ...
   ['0.', repmat('0', 1, 323), '5'], '0', '-2.5'}, 'shortest decimals');
-same(rp_mex([0.125 0.375 2.5], 2), {'0.12', '0.38', '2.5'}, 'rounded to even');
-refused(@() rp_analyse([3.18 1], [1 1]), 'rp:Refused:TooManyDecimals', 'record 1 column 1 (row 1 of table.csv, column p_1, value 3.18000000000');
-refused(@() rp_analyse([3.18 1], [1 1]), 'rp:Refused:TooManyDecimals', '''Numbers'', ''shortest''');
-same(rp_analyse([3.18 1], [1 1], 'Numbers', 'shortest').garp, true, 'the shortest decimals');
-same(rp_analyse([3.18 1], [1 1], 'Places', [2 0]).places, [2 0], 'rounded where asked');
+same(rp_mex([0.125 0.375 2.5 2.675], 2), {'0.12', '0.38', '2.5', '2.67'}, 'rounded to even');
+same(rp_mex([0.125 0.375 2.5 2.675 9.996 -0.5 99.5 0.5 1.5 1e22], 2, true), {'0.12', '0.38', '2.5', '2.68', '10', '-0.5', '99.5', '0.5', ...
+  '1.5', '10000000000000000000000'}, 'shortest decimals rounded');
+same(rp_mex([99.5 98.5 0.5 9.51 -0.4], 0, true), {'100', '98', '0', '10', '0'}, 'to whole numbers');
+same(rp_analyse([23.86 1], [1 1]).garp, true, 'the shortest decimals');
+same({rp_analyse([23.86 1], [1 1]).numbers, rp_analyse([0.5 1], [1 1]).numbers}, {'shortest decimals of doubles', ''}, 'how numbers were taken');
+refused(@() rp_analyse([1 / 3 1], [1 1]), 'rp:Refused:TooManyDecimals', 'record 1 column 1 (row 1 of table.csv, column p_1, value 0.3333333333333333)');
+refused(@() rp_analyse([3.18 1], [1 1], 'Numbers', 'exact'), 'rp:Refused:TooManyDecimals', '''Numbers'', ''shortest'', the default');
+refused(@() rp_analyse([1 / 3 1], [1 1]), 'rp:Refused:TooManyDecimals', '''Decimals'', [2 0]');
+same(rp_analyse([3.18 1], [1 1], 'Decimals', [2 0]).places, [2 0], 'rounded where asked');
+same(rp_analyse([3.18 1], [1 1], 'Places', [1 0]).places, [1 0], 'the older name');
 same(rp_analyse({'3.18', '1'}, {'1', '1'}).places, [2 0], 'texts');
 same(rp_analyse(int32([3 1]), int32([1 1])).garp, true, 'whole types');
 refused(@() rp_analyse([0 1], [1 1]), 'rp:Refused:ZeroPrice', 'record 1 column 1');
@@ -148,11 +154,11 @@ t = rmfield(t, 'e');
 t.p_a = {'1,5'; sprintf('1\n3,1,1,1,1')};
 t.p_b = {'1'; '1'};
 refused(@() rp_panel(t, 'home'), 'rp:Refused:All', 'BadNumber at row 1, column p_a, value 1,5');
-[t.p_a, t.home] = deal([3.18; 1], {'u'; 'v'});
+[t.p_a, t.home] = deal([1 / 3; 1], {'u'; 'v'});
 t.p_b = [1; 1];
 r = rp_panel(t, 'home');
 same({r.fault, r(1).record, r(1).column}, {'TooManyDecimals', '', 1, 2}, 'a double of many places in a panel');
-same({rp_panel(t, 'home', 'Numbers', 'shortest').fault}, {'', ''}, 'the shortest decimals in a panel');
+same({rp_panel(t, 'home').fault}, {'', ''}, 'the shortest decimals in a panel');
 
 % More households than one call has.
 many = 450;

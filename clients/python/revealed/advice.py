@@ -4,6 +4,7 @@ from __future__ import annotations
 
 from fractions import Fraction
 from functools import cached_property
+from math import isfinite
 from typing import Any, Callable, Iterable, Sequence
 
 from . import exact
@@ -13,7 +14,6 @@ LARGEST = LIMITS["table.largest"]
 LARGEST_MONEY = LIMITS["table.largest_expenditure"]
 # What is scaled by one power of ten, by the name that a column has in a sheet.
 PRICES, QUANTITIES, LEVELS, MONEY, WHOLE = "prices", "quantities", "levels", "money", "whole numbers"
-MEANT = "docs/USING.md, 'A table that keeps its verdict'"
 LEVEL_HINT = f"levels are whole thousandths of what was spent, from 1 to {LIMITS['table.level_scale']}: 0.8 of it is 800"
 NAME_HINT = f"a name has 1 to {LIMITS['table.name_bytes']} bytes, none of them a control character, and stands once"
 FEWER = "ask about fewer budgets"
@@ -57,28 +57,33 @@ PANEL_HINTS = {
     "NoId": "a record without a household is none's: give it the name of its household, or leave it out",
     "LongId": f"the name of a household has at most {LIMITS['long.household_bytes']} bytes",
     "OwnLevels": "the money pump and the power are defined on tables without levels: leave pump and power out, or the levels",
-    "TooManyRecords": f"a household has at most {LIMITS['table.records']} rows: name more columns that tell households apart",
+    "TooManyRecords": f"one household has at most {LIMITS['table.records']} observations: test parts of its observations apart, such as years",
 }
 
 
-def numbers(values: Iterable[Any]) -> list[Fraction]:
-    """Returns those of the values that are numbers."""
-    found = (exact.fraction_of(value) for value in values)
-    return [number for number in found if number is not None]
+def largest_of(values: Sequence[Any]) -> Fraction:
+    """Returns the largest of those of the values that are numbers, and 0 where there is none."""
+    most = max((value for value in values if isinstance(value, float) and isfinite(value)), default=0.0)
+    # Of the other kinds each value is looked at once, however often it comes.
+    others = {value for value in values if not isinstance(value, float) and type(value).__hash__ is not None}
+    found = [Fraction(0), Fraction(exact.shortest_of(most)), *map(exact.fraction_of, others)]
+    return max(number for number in found if number is not None)
 
 
-def places_that_fit(values: Iterable[Any]) -> int | None:
+def places_that_fit(values: Sequence[Any]) -> int | None:
     """Returns the most places to which all of them can be rounded so that none is too large made whole; None where there is none.
 
     The numbers of a kind are made whole by one power of ten, and none may be above 9,999,999 then: 7 digits of the largest one.
     """
-    largest = max(numbers(values), default=Fraction(0))
+    largest = largest_of(values)
     return next((places for places in range(exact.MOST_PLACES, -1, -1) if exact.rounded(largest, places) * 10**places <= LARGEST), None)
 
 
-def is_too_fine(value: Any) -> bool:
-    """Whether a number has more places than are taken."""
-    number = exact.fraction_of(value)
+def is_too_fine(value: Any, shortest: bool = True) -> bool:
+    """Whether a number has more places than are taken, or a float more digits."""
+    if isinstance(value, float):
+        return exact.is_beyond(value, shortest)
+    number = exact.fraction_of(exact.shortest_of(value) if shortest else value)
     try:
         return number is not None and exact.places_of(number) > exact.MOST_PLACES
     except exact.NotFinite:
@@ -86,11 +91,11 @@ def is_too_fine(value: Any) -> bool:
 
 
 class Kinds:
-    """The values of each kind of what is asked about together, a table or a panel, and the names of what has a price. They are
-    gathered where something is told of them, and what is told is reckoned once."""
+    """The values of each kind of what is asked about together, a table or a panel, and how each kind is taken. They are gathered where
+    something is told of them, and what is told is reckoned once."""
 
-    def __init__(self, values: Callable[[], dict[str, Sequence[Any]]], goods: Sequence[str]) -> None:
-        self.values, self.goods = values, goods
+    def __init__(self, values: Callable[[], dict[str, Sequence[Any]]], shortest: bool = True) -> None:
+        self.values, self.shortest = values, shortest
         self.known: dict[tuple[str, str], Any] = {}
 
     @cached_property
@@ -107,67 +112,50 @@ class Kinds:
         found: int | None = self._once("most", kind, places_that_fit)
         return found
 
-    def needs_places(self, kind: str) -> bool:
-        """Whether a number has too many places."""
-        return bool(self._once("needs", kind, lambda values: any(map(is_too_fine, values))))
+    def too_fine(self, kind: str) -> int:
+        """Returns how many numbers have too many places."""
+        return int(self._once("fine", kind, lambda values: sum(is_too_fine(value, self.shortest) for value in values)))
 
     def shortest_fits(self) -> bool:
-        """Whether all numbers are taken with each float as the shortest decimal that gives it back."""
-        return all(self._once("shortest", kind, fits_as_shortest) for kind in self.of)
-
-
-def fits_as_shortest(values: Sequence[Any]) -> bool:
-    """Whether numbers are taken with each float as the shortest decimal that gives it back."""
-    short = [exact.shortest_of(value) for value in values]
-    if any(map(is_too_fine, short)):
-        return False
-    found = numbers(short)
-    most = max(map(exact.places_of, found), default=0)
-    return max(found, default=Fraction(0)) * 10**most <= LARGEST
-
-
-SHORTEST = (
-    "numbers='shortest' takes each float as the shortest decimal that gives it back, which is the one that it was read from if that" " had at most 15 digits"
-)
+        """Whether each float has a shortest decimal that is taken."""
+        return not any(self._once("short", kind, lambda values: any(map(is_too_fine, values))) for kind in (PRICES, QUANTITIES))
 
 
 def asked_for(kinds: Kinds, always: str | None = None) -> str | None:
     """Returns the argument that rounds each kind which needs it, to the most places that fit; the other kind is left as it is."""
     places: list[int | None] = []
     for kind in (PRICES, QUANTITIES):
-        needs = kind == always or kinds.needs_places(kind)
+        needs = kind == always or kinds.too_fine(kind) > 0
         most = kinds.most(kind) if needs else None
         if needs and most is None:
             return None
         places.append(most)
-    return f"places=({places[0]}, {places[1]})"
+    return f"decimals=({places[0]}, {places[1]})"
 
 
-def too_many_places(value: Any, kind: str, kinds: Kinds) -> str:
-    """Returns what to do about a number of too many places."""
-    number = exact.fraction_of(value)
-    assert number is not None
-    try:
-        written = exact.decimal_text(number)
-        what = f"this is {written[:24]}{'..' if len(written) > 24 else ''}, and at most {exact.MOST_PLACES} places are taken"
-    except exact.NotFinite:
-        what = f"{number} is no finite decimal"
+# What a double that is refused needs, by the program's limits on prices and quantities.
+NEEDS = f"more than {exact.MOST_PLACES} decimal places or {exact.MOST_FIGURES} digits"
+INTERCEPTS = "If prices are 1 over an intercept, give the intercepts in columns i_NAME: nothing is rounded then."
+
+
+def too_many_places(kind: str, kinds: Kinds, may_be_a_line: bool) -> str:
+    """Returns what to do about a number of too many places, in at most four lines; `may_be_a_line` says that it is a price of two goods
+    and not given by intercepts already."""
     if kind not in (PRICES, QUANTITIES):
-        return f"{what}; nothing is rounded unasked: give it as a text or a Decimal of at most {exact.MOST_PLACES} places"
-    short = exact.shortest_of(value)
-    shortest = f"{SHORTEST}, here {short}; " if short is not value and kinds.shortest_fits() else ""
+        return f"it needs more than {exact.MOST_PLACES} decimal places. Give it as a text or a Decimal of at most {exact.MOST_PLACES} decimal places."
+    others = kinds.too_fine(PRICES) + kinds.too_fine(QUANTITIES) - 1
+    more = f", as do {others:,} other numbers" if others > 1 else ", as does 1 other number" if others == 1 else ""
+    lines = [f"it needs {NEEDS}{more}."]
+    if may_be_a_line:
+        lines.append(INTERCEPTS)
+    if not kinds.shortest and kinds.shortest_fits():
+        lines.append("numbers='shortest', the default, takes each float as the shortest decimal that gives it back, and rounds nothing.")
     argument = asked_for(kinds)
     if argument is None:
-        return f"{what}; and {without_places(kind)}"
-    said = f"{what}; nothing is rounded unasked: {shortest}{argument} rounds to the most places that fit, those of prices and those of quantities"
-    return f"{said}; a text or a Decimal is taken as it is{rounded_prices(kinds) if kind == PRICES else ''}"
-
-
-def rounded_prices(kinds: Kinds) -> str:
-    """Returns what is said of prices that are rounded."""
-    two = len(kinds.goods) == 2
-    how = "; prices 1/a and 1/b of a budget line need no rounding: its intercepts exchanged are prices too, b of the first good and a of the second"
-    return f"{how if two else '; rounded prices can change a verdict'} ({MEANT})"
+        lines.append(without_places(kind))
+    else:
+        lines.append(f"{argument} rounds prices and quantities to the most decimal places that fit. Rounded prices can change a verdict.")
+    return "\n".join(lines)
 
 
 def without_places(kind: str) -> str:
@@ -175,7 +163,7 @@ def without_places(kind: str) -> str:
     unit = (
         "a smaller unit of the good (its price less, its quantity more)" if kind == PRICES else "a larger unit of the good (its quantity less, its price more)"
     )
-    return f"above {LARGEST:,} a number is not taken: take {unit}, which changes no verdict ({MEANT})"
+    return f"above {LARGEST:,} a number is not taken: take {unit}, which changes no verdict"
 
 
 def too_large(value: Any, kind: str, kinds: Kinds) -> str:
@@ -185,12 +173,12 @@ def too_large(value: Any, kind: str, kinds: Kinds) -> str:
     if kind not in (PRICES, QUANTITIES):
         return f"it is at most {LARGEST:,}"
     most = kinds.most(kind)
-    limit = f"all {kind} of a file are made whole by one power of ten, and none may be above {LARGEST:,} then"
+    limit = f"all {kind} are made whole by one power of ten, and none may be above {LARGEST:,} then"
     if most is None:
         return f"{limit}; {without_places(kind)}"
     other = QUANTITIES if kind == PRICES else PRICES
-    own = f"{most} places fit"
-    argument = f"places=({most}, None)" if kind == PRICES else f"places=(None, {most})"
-    if kinds.needs_places(other):
+    argument = f"decimals=({most}, None)" if kind == PRICES else f"decimals=(None, {most})"
+    if kinds.too_fine(other):
         argument = asked_for(kinds, kind) or argument
-    return f"{limit}: with the largest of them {own}, and {argument} rounds to so many{rounded_prices(kinds) if kind == PRICES else ''}"
+    changes = "; rounded prices can change a verdict" if kind == PRICES else ""
+    return f"{limit}: with the largest of them {most} decimal places fit, and {argument} rounds to so many{changes}"

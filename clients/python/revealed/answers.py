@@ -207,13 +207,19 @@ class Verdict:
         if self.cycle:
             lines.insert(1, "cycle " + " ".join(map(str, self.cycle)))
         told = [*lines, *(f"{name}: {why}" for name, why in self.reasons.items())]
-        return "\n".join(told if self.proved else [*told, NO_PROOF])
+        return with_numbers("\n".join(told if self.proved else [*told, NO_PROOF]), self.table)
 
 
 BY_WIDE = " (by rp-wide; rp itself withholds it)"
 TAKEN_BY_WIDE = " (by rp-wide; rp itself refuses these choices)"
 UNFOUND = "rp-wide found no evidence in {} steps of its search; fewer budgets, or coarser shares by per=, make that shorter"
 NO_PROOF = "by plain whole numbers: no proof stands behind this, and verify looks at its evidence"
+
+
+def with_numbers(told: str, *sheets: Sheet) -> str:
+    """Returns what is told, with a line that says how numbers were taken where a float was taken for a decimal that it is not."""
+    found = next((it.numbers for it in sheets if it.numbers), None)
+    return told if found is None else f"{told}\nnumbers: {found}"
 
 
 def is_wide(own: dict[str, Any], stated: dict[str, Any]) -> bool:
@@ -540,7 +546,8 @@ class RandomVerdict:
     def __repr__(self) -> str:
         if self.rational is None:
             return f"random withheld: {self.reason}"
-        return f"{'random mixture' if self.rational else f'random violated share {self.share}'}{TAKEN_BY_WIDE if self.wide else ''}"
+        told = f"{'random mixture' if self.rational else f'random violated share {self.share}'}{TAKEN_BY_WIDE if self.wide else ''}"
+        return with_numbers(told, self.choices.budgets, self.choices.choices)
 
 
 class Checked:

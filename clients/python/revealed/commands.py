@@ -11,7 +11,7 @@ from .answers import Answers, Certificate, Checked, Patch, RandomVerdict, Verdic
 from .catalogue import DRAWS, PER, SEED, span
 from .faults import BadData, Failed, NoFile, Refused
 from .measures import CostMinimisation, MenuVerdict, MoneyPump, Power, Trial
-from .tables import EXACT, OWN_MONEY, Choices, Forms, MenuChoices, Sheet, Table, Technology, beside, forms_of, table
+from .tables import DEFAULT, OWN_MONEY, Choices, Forms, MenuChoices, Sheet, Table, Technology, beside, forms_of, table, takes_places
 from .verifier import Findings, reports
 
 TABLE, NEW, BUDGETS, CHOICES, CERTIFICATE = "table.csv", "new.csv", "budgets.csv", "choices.csv", "certificate.json"
@@ -22,28 +22,31 @@ Explains = Callable[[Union[str, None], str, "dict[str, int]"], Exception]
 # ---- verdicts on a table
 
 
-def analyse(p: Any, q: Any = None, *, levels: Any = None, places: Any = None, numbers: Any = "exact", exe: Any = None, wide: bool = True) -> Verdict:
+@takes_places
+def analyse(p: Any, q: Any = None, *, levels: Any = None, decimals: Any = None, numbers: Any = "shortest", exe: Any = None, wide: bool = True) -> Verdict:
     """Returns the Verdict on prices p and quantities q: two lists of rows, two arrays, or two frames; or on a table alone.
 
-    `levels` gives each row its level, in whole thousandths of what was spent, where the frame has no column `e`. `places` rounds
-    each number to so many decimal places; two numbers, those of prices and of quantities. Without it nothing is rounded, and
-    a float that has more than 6 places is refused, as 3.18 is, a binary fraction. `numbers="shortest"` takes each float as the
-    shortest decimal that gives it back. What the program withholds its wider edition is asked for; `wide=False` asks the program
+    `levels` gives each row its level, in whole thousandths of what was spent, where the frame has no column `e`. A float
+    is taken as the shortest decimal that gives it back, which is the one that it was read from; one that needs more than 6 decimal
+    places or 7 digits is refused, and `decimals` rounds each number to so many decimal places, half to even; two numbers are those of
+    prices and of quantities. `numbers="exact"` takes a float as the binary fraction that it is. What the program withholds its wider edition is asked for; `wide=False` asks the program
     alone.
     """
-    own = table(p, q, places=places, numbers=numbers, levels=levels)
+    own = table(p, q, decimals=decimals, numbers=numbers, levels=levels)
     return Verdict(own, _certificate(["certify", TABLE], [own], exe, wide))
 
 
-def certify(p: Any, q: Any = None, *, levels: Any = None, places: Any = None, numbers: Any = "exact", exe: Any = None, wide: bool = True) -> Certificate:
+@takes_places
+def certify(p: Any, q: Any = None, *, levels: Any = None, decimals: Any = None, numbers: Any = "shortest", exe: Any = None, wide: bool = True) -> Certificate:
     """Returns the Certificate of these verdicts."""
-    return _certificate(["certify", TABLE], [table(p, q, places=places, numbers=numbers, levels=levels)], exe, wide)
+    return _certificate(["certify", TABLE], [table(p, q, decimals=decimals, numbers=numbers, levels=levels)], exe, wide)
 
 
-def first_contradiction(p: Any, q: Any = None, *, levels: Any = None, places: Any = None, numbers: Any = "exact", exe: Any = None) -> tuple[Any, Any] | None:
+@takes_places
+def first_contradiction(p: Any, q: Any = None, *, levels: Any = None, decimals: Any = None, numbers: Any = "shortest", exe: Any = None) -> tuple[Any, Any] | None:
     """Returns the labels of the first two rows that contradict each other, the one weakly preferred to the other and that strictly
     to it; None where no two do. It is a quick look: longer cycles are seen by `analyse`."""
-    own = table(p, q, places=places, numbers=numbers, levels=levels)
+    own = table(p, q, decimals=decimals, numbers=numbers, levels=levels)
     told = program.answer(["pairs", TABLE], {TABLE: own.csv()}, exe, _explains(own))
     with reading(told.encode()):
         pair = reports.read_pairs(told)
@@ -53,24 +56,26 @@ def first_contradiction(p: Any, q: Any = None, *, levels: Any = None, places: An
         return first, second
 
 
-def money_pump(p: Any, q: Any = None, *, levels: Any = None, places: Any = None, numbers: Any = "exact", exe: Any = None) -> MoneyPump:
+@takes_places
+def money_pump(p: Any, q: Any = None, *, levels: Any = None, decimals: Any = None, numbers: Any = "shortest", exe: Any = None) -> MoneyPump:
     """Returns the greatest money pump ratio of a table, with a cycle that has it. It is refused on a table with levels, and on
     one of intercepts exchanged, whose rows have money of their own."""
-    own = table(p, q, places=places, numbers=numbers, levels=levels)
+    own = table(p, q, decimals=decimals, numbers=numbers, levels=levels)
     if own.own_money:
         raise BadData(f"the money pump: {OWN_MONEY}")
     return MoneyPump(own, program.answer(["pump", TABLE], {TABLE: own.csv()}, exe, _explains(own)).encode())
 
 
+@takes_places
 def power_of_test(
-    p: Any, q: Any = None, *, seed: Any = 1, draws: Any = 1000, levels: Any = None, places: Any = None, numbers: Any = "exact", exe: Any = None
+    p: Any, q: Any = None, *, seed: Any = 1, draws: Any = 1000, levels: Any = None, decimals: Any = None, numbers: Any = "shortest", exe: Any = None
 ) -> Power:
     """Returns how many of so many random behaviours on the budgets of a table, 1 to 1,000, violate the axiom.
 
     How they are drawn stands in docs/USING.md: nearer to equal division than uniformly on the budget line. It is refused on a
     table with levels.
     """
-    own = table(p, q, places=places, numbers=numbers, levels=levels)
+    own = table(p, q, decimals=decimals, numbers=numbers, levels=levels)
     seed, draws = program.whole(seed, "seed", *SEED), program.whole(draws, "draws", *DRAWS)
     out = program.answer(["power", TABLE, str(seed), str(draws)], {TABLE: own.csv()}, exe, _explains(own))
     return Power(own, out.encode(), seed, draws)
@@ -87,6 +92,7 @@ def random_trial(seed: Any, rows: Any, goods: Any, *, exe: Any = None, wide: boo
 # ---- at new prices
 
 
+@takes_places
 def demand_bounds(
     p: Any,
     q: Any = None,
@@ -94,8 +100,8 @@ def demand_bounds(
     m: Any = None,
     *,
     levels: Any = None,
-    places: Any = None,
-    numbers: Any = "exact",
+    decimals: Any = None,
+    numbers: Any = "shortest",
     exe: Any = None,
     wide: bool = True,
 ) -> Answers:
@@ -103,32 +109,35 @@ def demand_bounds(
 
     A frame of new prices may have the column `m` itself. It is refused on a table with levels.
     """
-    own = table(p, q, places=places, numbers=numbers, levels=levels)
-    sheet = _new(own, new, "p_", "m", m, forms=forms_of(places, numbers))
+    own = table(p, q, decimals=decimals, numbers=numbers, levels=levels)
+    sheet = _new(own, new, "p_", "m", m, forms=forms_of(decimals, numbers))
     return demands(own, sheet, _certificate(["demand", TABLE, NEW, "--json"], [own, sheet], exe, wide))
 
 
+@takes_places
 def welfare_bounds(
-    p: Any, q: Any = None, new: Any = None, *, levels: Any = None, places: Any = None, numbers: Any = "exact", exe: Any = None, wide: bool = True
+    p: Any, q: Any = None, new: Any = None, *, levels: Any = None, decimals: Any = None, numbers: Any = "shortest", exe: Any = None, wide: bool = True
 ) -> Answers:
     """Returns the Welfare bounds at each row of new prices. It is refused on a table with levels."""
-    own = table(p, q, places=places, numbers=numbers, levels=levels)
-    sheet = _new(own, new, "p_", forms=forms_of(places, numbers))
+    own = table(p, q, decimals=decimals, numbers=numbers, levels=levels)
+    sheet = _new(own, new, "p_", forms=forms_of(decimals, numbers))
     return welfares(own, sheet, _certificate(["welfare", TABLE, NEW, "--json"], [own, sheet], exe, wide))
 
 
-def afriat_utility(p: Any, q: Any = None, bundles: Any = None, *, levels: Any = None, places: Any = None, numbers: Any = "exact", exe: Any = None) -> Answers:
+@takes_places
+def afriat_utility(p: Any, q: Any = None, bundles: Any = None, *, levels: Any = None, decimals: Any = None, numbers: Any = "shortest", exe: Any = None) -> Answers:
     """Returns the utility of each bundle under the Verdict's Afriat numbers, in their scale: money where lambda is 1."""
-    own = table(p, q, places=places, numbers=numbers, levels=levels)
-    sheet = _new(own, bundles, "q_", forms=forms_of(places, numbers))
+    own = table(p, q, decimals=decimals, numbers=numbers, levels=levels)
+    sheet = _new(own, bundles, "q_", forms=forms_of(decimals, numbers))
     return utilities(own, sheet, program.answer(["utility", TABLE, NEW], {TABLE: own.csv(), NEW: sheet.csv()}, exe, _explains(own, sheet)))
 
 
 # ---- firms, and choices of many people
 
 
+@takes_places
 def cost_minimisation(
-    technology: Any, asked: Any = None, *, places: Any = None, numbers: Any = "exact", exe: Any = None, wide: bool = True
+    technology: Any, asked: Any = None, *, decimals: Any = None, numbers: Any = "shortest", exe: Any = None, wide: bool = True
 ) -> CostMinimisation:
     """Returns whether a firm minimises its cost and maximises its profit, and what outputs cost at new prices of the inputs.
 
@@ -136,16 +145,17 @@ def cost_minimisation(
     and perhaps `p`, its price. What is asked is a frame with `w_NAME` and `y`, or a mapping of these to one number each; without
     it the verdicts alone are given.
     """
-    own = technology if isinstance(technology, Technology) else Technology(technology, places, numbers)
+    own = technology if isinstance(technology, Technology) else Technology(technology, decimals, numbers)
     first = dict(zip(own.names, own.rows[0])) if own.rows else {}
-    sheet = own.asked({name: first.get(name) for name in own.names if name.startswith("w_") or name == "y"} if asked is None else asked, places, numbers)
+    sheet = own.asked({name: first.get(name) for name in own.names if name.startswith("w_") or name == "y"} if asked is None else asked, decimals, numbers)
     files = {TECHNOLOGY: own.csv(), ASKED: sheet.csv()}
     given = program.given(["cost", TECHNOLOGY, ASKED], files, exe, _explains(own, sheet), wide)
     return CostMinimisation(own, sheet, given.out.encode(), asked is not None, _stated(given), given.hint)
 
 
+@takes_places
 def random_utility(
-    budgets: Any, choices: Any, per: Any = None, *, places: Any = None, numbers: Any = "exact", exe: Any = None, wide: bool = True
+    budgets: Any, choices: Any, per: Any = None, *, decimals: Any = None, numbers: Any = "shortest", exe: Any = None, wide: bool = True
 ) -> RandomVerdict:
     """Returns the RandomVerdict on choices from budgets.
 
@@ -155,17 +165,18 @@ def random_utility(
     are taken as exact: what a sample leaves to chance is not looked at. Choices with more patches or types than the program lists
     its wider edition is asked about; `wide=False` asks the program alone.
     """
-    own = Choices(budgets, choices, per, forms_of(places, numbers))
+    own = Choices(budgets, choices, per, forms_of(decimals, numbers))
     out, is_wide = _of_choices(["random", BUDGETS, CHOICES, "--json", *_units(own.per)], own, exe, wide)
     return RandomVerdict(own, Certificate(out.encode()), is_wide)
 
 
+@takes_places
 def choice_patches(
-    budgets: Any, choices: Any, per: Any = None, *, places: Any = None, numbers: Any = "exact", exe: Any = None, wide: bool = True
+    budgets: Any, choices: Any, per: Any = None, *, decimals: Any = None, numbers: Any = "shortest", exe: Any = None, wide: bool = True
 ) -> list[Patch]:
     """Returns the patches that choices from budgets fall in: of each its budget, its share of that budget's choices, and the side of
     every budget on which it lies. Budgets, choices, `per` and `wide` are those of `random_utility`, and the patches have its numbers."""
-    own = Choices(budgets, choices, per, forms_of(places, numbers))
+    own = Choices(budgets, choices, per, forms_of(decimals, numbers))
     out, _ = _of_choices(["patches", BUDGETS, CHOICES, *_units(own.per)], own, exe, wide)
     return patches_of(own, out)
 
@@ -229,10 +240,28 @@ def verify(data: Any, certificate: Any = None, *, per: Any = None) -> Findings:
         return verifier.verify_menus(files.get(MENUS, files.get(TABLE, b"")), claimed, per)
     if TABLE in files:
         is_report = claimed.lstrip().startswith(b"observations ")
-        return verifier.verify_pump(files[TABLE], claimed) if is_report else verifier.verify_table(files[TABLE], claimed)
+        found = verifier.verify_pump(files[TABLE], claimed) if is_report else verifier.verify_table(files[TABLE], claimed)
+        return told_of_prices(found) if getattr(_table_of(data), "own_money", False) else found
     if BUDGETS in files:
         return verifier.verify_choices(files[BUDGETS], files[CHOICES], claimed, per)
     raise BadData("a certificate is on a table or on choices from budgets; on menus and on firms there are reports")
+
+
+def _table_of(data: Any) -> Any:
+    """Returns the table that some data are, or have."""
+    try:
+        return data.table if hasattr(data, "table") else data if isinstance(data, Table) else table(*data) if isinstance(data, tuple) else table(data)
+    except (BadData, TypeError):
+        return None
+
+
+def told_of_prices(found: Findings) -> Findings:
+    """Returns what was found of a table whose prices are intercepts exchanged: an item that adds money of different rows proves its
+    verdict of these prices, and tells nothing of the data."""
+    for item in found.items:
+        if item.kind in ("quasilinear", "pump"):
+            item.says = f"{item.says} on the exchanged intercepts as prices of one unit of money, which is not told of the data"
+    return found
 
 
 def _as_firm(files: dict[str, bytes]) -> dict[str, bytes]:
@@ -255,7 +284,7 @@ def _stated(given: program.Given) -> bytes | None:
     return None if given.stated is None else given.stated.encode()
 
 
-def _new(own: Table, data: Any, prefix: str, more: str | None = None, values: Any = None, forms: Forms = EXACT) -> Sheet:
+def _new(own: Table, data: Any, prefix: str, more: str | None = None, values: Any = None, forms: Forms = DEFAULT) -> Sheet:
     if data is None:
         raise BadData("there are no new prices or bundles")
     return beside(own, data, prefix, more, values, forms)

@@ -1,8 +1,8 @@
-"""Numbers as text, without rounding.
+"""Numbers as text.
 
-An int, a Decimal, a Fraction with a finite decimal, a text and a float are each written as the number that they are. A
-float is a binary fraction: 0.5 is a half, and 3.18 is 3.18000000000000015987.., of which the program does not take so many
-places. `numbers="shortest"` takes it as the shortest decimal that gives it back, 3.18, and `places` asks for rounding.
+An int, a Decimal, a Fraction with a finite decimal and a text are each written as the number that they are. A float is a binary
+fraction: the one that is read from 3.18 is 3.18000000000000015987... It is written as the shortest decimal that gives it back, 3.18,
+and the result says so. `numbers="exact"` takes the binary fraction itself, and `decimals` asks for rounding.
 """
 
 from __future__ import annotations
@@ -18,6 +18,7 @@ from .catalogue import LIMITS
 
 MISSING = ""
 MOST_PLACES = LIMITS["table.places"]
+MOST_FIGURES = len(str(LIMITS["table.largest"]))
 _PLAIN = re.compile(r"[0-9]+(\.[0-9]+)?")
 _NUMBER = re.compile(r"[+-]?([0-9]+\.?[0-9]*|\.[0-9]+)([eE][+-]?[0-9]{1,3})?")
 # A number of more digits before its point, or more places behind it, is refused before it is made a whole number or a text. No
@@ -39,21 +40,29 @@ class TooLong(ValueError):
 
 
 class Form(NamedTuple):
-    """How numbers become texts: rounded to so many `places`, or not where that is None; a float as the binary fraction that it
-    is, or by `shortest` as the shortest decimal that gives it back."""
+    """How numbers become texts: rounded to so many `places`, or not where that is None; a float by `shortest` as the shortest decimal
+    that gives it back, else as the binary fraction that it is."""
 
     places: int | None = None
-    shortest: bool = False
+    shortest: bool = True
 
 
 AS_THEY_ARE = Form()
+# What a result says where a float was taken for a decimal that is not the binary fraction itself.
+SHORTENED = "shortest decimals of doubles"
+# A binary fraction of at most six decimal places is a whole number of 64ths.
+PARTS = 2**MOST_PLACES
 
 
 def text_of(value: Any, form: Form = AS_THEY_ARE) -> str:
     """Returns the text of a number, and the text of what is no number as it stands, for the program to refuse; raises TooLong."""
-    if form.shortest:
-        value = shortest_of(value)
     places = form.places
+    if form.shortest:
+        if isinstance(value, float) and places is None:
+            text = str(int(value)) if value.is_integer() and abs(value) < 2**53 else float.__repr__(value)
+            if _PLAIN.fullmatch(text):
+                return text
+        value = shortest_of(value)
     if isinstance(value, str):
         cell = value.strip(" \t")
         if places is None and _PLAIN.fullmatch(cell):
@@ -90,6 +99,23 @@ def shortest_of(value: Any) -> Any:
         text = str(value)
         return text if _NUMBER.fullmatch(text) and type(value)(text) == value else value
     return value
+
+
+def is_shortened(value: Any) -> bool:
+    """Whether a value is a float whose shortest decimal is another number than the float."""
+    if isinstance(value, float):
+        return isfinite(value) and not (value * PARTS).is_integer()
+    short = shortest_of(value)
+    return short is not value and fraction_of(short) != fraction_of(value)
+
+
+def is_beyond(value: float, shortest: bool = True) -> bool:
+    """Whether a float needs more than 6 decimal places or 7 digits: the shortest decimal that gives it back, or the float itself."""
+    if value.is_integer() or not isfinite(value):
+        return False
+    if not shortest and not (value * PARTS).is_integer():
+        return True
+    return float(f"{value:.{MOST_PLACES}f}") != value or float(f"{value:.{MOST_FIGURES}g}") != value
 
 
 def fault_of_length(value: Any) -> str | None:

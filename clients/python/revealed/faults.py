@@ -99,19 +99,22 @@ class Refused(Problem, ValueError):
         super().__init__(self._text())
 
     def _text(self) -> str:
+        """Returns the place, what is wrong and what to do, and at the end the program's own words for it."""
         words = [self.fault]
         for name in ("budget", "menu", "item", "record", "column"):
             if getattr(self, name) is not None:
                 words += [name, str(getattr(self, name))]
         told = []
+        if self.file and self.file != "table":
+            told.append(self.file)
         if self.label is not None:
             told.append(f"row {shown(self.label, repr)}")
         if self.name is not None:
             told.append(f"column {self.name!r}")
         if self.value is not None:
             told.append(f"value {self.value}")
-        place = f"{self.file}: " if self.file and self.file != "table" else ""
-        return place + " ".join(words) + (f" ({', '.join(told)})" if told else "") + (f": {self.hint}" if self.hint else "")
+        said = [", ".join(told), self.hint or ("refused" if told else "the data are refused")]
+        return f"{': '.join(filter(None, said))} [{' '.join(words)}]"
 
 
 class AllRefused(Refused):
@@ -123,5 +126,5 @@ class AllRefused(Refused):
         super().__init__(first.fault, first.file, label=first.label, name=first.name, value=first.value, hint=first.hint, **places)
 
     def _text(self) -> str:
-        who = f"all {self.count} households are refused for one cause, the first" if self.count > 1 else "the one household is refused"
+        who = f"all {self.count:,} households are refused for one cause, the first" if self.count > 1 else "the one household is refused"
         return f"{who}, {shown(self.key, repr)}: {super()._text()}"

@@ -69,6 +69,9 @@ def column_of(data: Any, name: Any, what: str) -> list[Any]:
     column = data[name]
     if hasattr(column, "to_pylist"):
         column = column.to_pylist()
+    elif str(getattr(column, "dtype", "")) in ("float16", "float32") and hasattr(column, "to_numpy"):
+        # Floats of fewer bits have shortest decimals of their own, which a float of Python has not.
+        column = column.to_numpy()
     if isinstance(column, (str, bytes, Mapping)) or not hasattr(column, "__iter__"):
         raise BadData(f"{what}: the column {name!r} is {described(column)}, and no list of values")
     return list(column)

@@ -8,7 +8,7 @@ from fractions import Fraction
 from typing import Any, Sequence
 
 from . import exact
-from .answers import BY_WIDE, WORDS, by_label, hinted, is_wide, money_scale, reading, walk_of, withheld
+from .answers import BY_WIDE, WORDS, by_label, hinted, is_wide, money_scale, reading, walk_of, with_numbers, withheld
 from .tables import MenuChoices, Sheet, Table, Technology
 from .verifier import reports
 
@@ -43,7 +43,7 @@ class MoneyPump:
         return self.pump
 
     def __repr__(self) -> str:
-        return f"pump {self.ratio}\ncycle {' '.join(map(str, self.cycle))}"
+        return with_numbers(f"pump {self.ratio}\ncycle {' '.join(map(str, self.cycle))}", self.table)
 
 
 class Power:
@@ -73,7 +73,7 @@ class Power:
         return self.power
 
     def __repr__(self) -> str:
-        return f"power {self.seed} draws {self.draws} violations {self.violations}"
+        return with_numbers(f"power {self.seed} draws {self.draws} violations {self.violations}", self.table)
 
 
 class Trial:
@@ -149,7 +149,7 @@ class CostMinimisation:
 
     def __repr__(self) -> str:
         lines = [f"cost {WORDS[self.cost]}", *([] if self.profit is None else [f"profit {WORDS[self.profit]}"])]
-        return "\n".join([*lines, *map(repr, self.bounds)])
+        return with_numbers("\n".join([*lines, *map(repr, self.bounds)]), self.technology, self.asked)
 
 
 def _cost_bound(technology: Technology, asked: Sheet, label: Any, told: dict[str, Any], stated: dict[str, Any], hint: str) -> CostBound:

@@ -6,8 +6,12 @@ The frame becomes long texts with a column of ids, households in blocks, and the
 from __future__ import annotations
 
 import os
+from collections import Counter
 from fractions import Fraction
-from typing import Any, Iterable, Iterator, NamedTuple, Sequence
+from functools import cached_property, partial
+from html import escape
+from statistics import fmean
+from typing import Any, Callable, Iterable, Iterator, NamedTuple, Sequence
 
 from . import clusters, exact, program
 from .advice import LEVELS, PANEL_HINTS, PRICES, QUANTITIES, Kinds
@@ -17,11 +21,13 @@ from .commands import analyse
 from .exact import AS_THEY_ARE
 from .faults import AllRefused, BadData, NoProgram, Pooled, Refused, WrongColumns
 from .frames import Frame, near, own_labels, prices_of, values_of
-from .long_call import BLANKS, COLUMNS, DECIDING, ID_BYTES, LONG, Asked, answered, in_turn, line_of
-from .tables import OWN_MONEY, Forms, Sheet, Table, as_taken, forms_of
+from .long_call import BLANKS, COLUMNS, DECIDING, ID_BYTES, LONG, OF_ID, Asked, answered, in_turn, line_of
+from .tables import OWN_MONEY, Forms, Sheet, Table, forms_of, takes_places
 
 # Fewer households than this are asked about by this thread alone, and no more in one call.
 FEW, BLOCK = 50, 200
+# So many rows are shown of a panel.
+SHOWN = 6
 HOUSEHOLD = "household"
 KEYS = "ids"
 # Without this hint a number that no decimal is has a text that is refused as it is.
@@ -38,19 +44,26 @@ class Row:
     words. `verdict` is the Verdict with its certificate, which is asked for when it is looked at.
     """
 
-    def __init__(self, key: Any, texts: Sequence[str], own: _Household, refusal: Exception | None = None) -> None:
+    def __init__(self, key: Any, texts: Sequence[str], own: _Household, refusal: Callable[[], Exception] | None = None) -> None:
         self.key = key
         self.texts = dict(zip(COLUMNS, texts))
-        self.refusal = refusal
+        self._refusal = refusal
         self._own = own
         self._verdict: Verdict | None = None
         it = self.texts
+        if self.own_money:
+            # The call was given prices, and says what is so of these. Of the data this test is not told: see `message`.
+            it["quasilinear"] = ""
         self.observations, self.goods, self.record, self.column = (_whole(it[name]) for name in ("observations", "goods", "record", "column"))
-        self.garp, self.attained, self.homothetic = (TRUTH.get(it[name]) for name in ("garp", "attained", "homothetic"))
-        self.quasilinear = None if self.own_money else TRUTH.get(it["quasilinear"])
+        self.garp, self.attained, self.homothetic, self.quasilinear = (TRUTH.get(it[name]) for name in ("garp", "attained", "homothetic", "quasilinear"))
         self.efficiency, self.pump, self.power = (_fraction(it[name]) for name in ("efficiency", "pump", "power"))
         self.efficiency_floor, self.pump_floor = (_number(it[name]) for name in ("efficiency_floor", "pump_floor"))
         self.fault: str | None = it["fault"] or None
+
+    @cached_property
+    def refusal(self) -> Exception | None:
+        """Why there are no verdicts, as an exception; it is made when it is looked at."""
+        return None if self._refusal is None else self._refusal()
 
     @property
     def ccei(self) -> float | None:
@@ -127,6 +140,52 @@ class Panel(list):
         super().__init__(rows)
         self.by = list(by)
         self.asked = list(asked)
+        self.numbers: str | None = None
+
+    def __getitem__(self, at: Any) -> Any:
+        """Returns a row, or of a slice a panel of these rows."""
+        found = super().__getitem__(at)
+        if not isinstance(at, slice):
+            return found
+        part = Panel(self.by, found, self.asked)
+        part.numbers = self.numbers
+        return part
+
+    def faults(self) -> list[dict[str, Any]]:
+        """Returns why households have no verdicts, the most frequent cause first: each `fault`, how many have it, `count`, and the key
+        and the message of the first."""
+        first = {row.fault: row for row in reversed(self) if row.fault is not None}
+        counts = Counter(row.fault for row in self if row.fault is not None)
+        return [{"fault": it, "count": count, "key": first[it].key, "message": first[it].message} for it, count in counts.most_common()]
+
+    def said(self) -> list[str]:
+        """Returns what is said of the panel as a whole, in a few lines."""
+        own = [row for row in self if row.fault is None]
+        unnamed = sum(row.fault in OF_ID for row in self)
+        lines = [f"panel of {len(self) - unnamed:,} households by {', '.join(map(repr, self.by))}, {len(own):,} with verdicts"]
+        if own:
+            index = [row.efficiency_floor for row in own if row.efficiency_floor is not None]
+            holds = sum(row.garp is True for row in own)
+            lines.append(f"garp holds {holds:,}, violated {len(own) - holds:,}; efficiency (CCEI) mean {fmean(index):.4f}, minimum {min(index):.6f}")
+        lines += [f"{it['count']:,} without verdicts: {it['fault']}, the first {it['key']!r}" for it in self.faults()]
+        return lines + ([f"numbers: {self.numbers}"] if self.numbers else [])
+
+    def __repr__(self) -> str:
+        more = len(self) - SHOWN
+        rows = [repr(row).partition("\n")[0] for row in self[:SHOWN]]
+        return "\n".join([*self.said(), *rows, *([f".. and {more:,} rows more: .frame() and .records() have all"] if more > 0 else [])])
+
+    def _repr_html_(self) -> str:
+        """Returns what a notebook shows: what is said of the panel, and its first rows as a table."""
+        names = [*self.by, *(name for name in COLUMNS[1:] if any(row.texts[name] for row in self[:SHOWN]))]
+        heads = "".join(f"<th>{escape(str(name))}</th>" for name in names)
+        rows = []
+        for row in self[:SHOWN]:
+            cells = [*map(str, self.keys(row)), *(row.texts[name] for name in names[len(self.by) :])]
+            rows.append("<tr>" + "".join(f"<td>{escape(cell)}</td>" for cell in cells) + "</tr>")
+        more = f"<p>.. and {len(self) - SHOWN:,} rows more</p>" if len(self) > SHOWN else ""
+        said = "<br>".join(map(escape, self.said()))
+        return f"<p>{said}</p><table><thead><tr>{heads}</tr></thead><tbody>{''.join(rows)}</tbody></table>{more}"
 
     def names(self) -> list[str]:
         """Returns the names of what a record has: the columns by which households are told apart, and those of each panel."""
@@ -203,6 +262,7 @@ KINDS = {
 }
 
 
+@takes_places
 def panel(
     d: Any,
     by: Any,
@@ -212,8 +272,8 @@ def panel(
     pump: bool = False,
     power: Any = None,
     seed: Any = 1,
-    places: Any = None,
-    numbers: Any = "exact",
+    decimals: Any = None,
+    numbers: Any = "shortest",
     exe: Any = None,
     wide: bool = True,
     progress: bool = True,
@@ -222,7 +282,8 @@ def panel(
 
     Households are told apart by the texts of their keys, without the blanks round them; a row whose key is empty or missing is no
     household's, and is told for itself. A household with a fault has it in its row, and the others go on; where all have the same,
-    that is raised (AllRefused), with what to do. `places` and `numbers` are those of `analyse`. `pump` asks for the greatest money
+    that is raised (AllRefused), with what to do. `decimals` and `numbers` are those of `analyse`; a float that needs more decimal places
+    or digits than are taken refuses the whole panel at once. `pump` asks for the greatest money
     pump ratio of each too, and `power` for how many of so many random behaviours, drawn by `seed`, fail the axiom. A column `e` has
     levels, or `levels` gives them, one for each row or one for all; with these neither is asked. `wide=False` asks the program as it
     is, and not for what its wider edition gives. It runs on all processors, or on so many `workers`, and shows a bar where the
@@ -236,7 +297,7 @@ def panel(
         power, seed = program.whole(power, "power", *DRAWS), program.whole(seed, "seed", *SEED)
     if workers is not None:
         workers = program.whole(workers, "workers", 1, 1024)
-    more = {"levels": levels, "pump": pump, "power": power, "seed": seed, "places": places, "numbers": numbers, "exe": exe}
+    more = {"levels": levels, "pump": pump, "power": power, "seed": seed, "decimals": decimals, "numbers": numbers, "exe": exe}
     more["wide"] = program.switch(wide, "wide")
     if clusters.is_dask(d):
         of_dask: Panel = clusters.of_dask(d, names, more)
@@ -256,16 +317,19 @@ def answers(
     pump: bool = False,
     power: Any = None,
     seed: Any = 1,
-    places: Any = None,
-    numbers: Any = "exact",
+    decimals: Any = None,
+    numbers: Any = "shortest",
     exe: Any = None,
     wide: bool = True,
 ) -> Panel:
     """Returns the Panel of a frame, whether or not any household has verdicts."""
     asked = Asked(HOUSEHOLD, (), bool(pump), None if power is None else (power, seed), wide)
-    whole = LongFrame(Frame(d), names, levels, forms_of(places, numbers), asked, exe)
+    whole = LongFrame(Frame(d), names, levels, forms_of(decimals, numbers), asked, exe)
+    whole.refuse_floats()
     rows = _bar(whole.answers(workers or _processors()), len(whole.households) + len(whole.unnamed), progress)
-    return Panel(names, list(rows), [it for it, is_asked in (("pump", pump), ("power", power is not None)) if is_asked])
+    found = Panel(names, rows, [it for it, is_asked in (("pump", pump), ("power", power is not None)) if is_asked])
+    found.numbers = whole.numbers
+    return found
 
 
 def of_tables(tables: Sequence[Table], workers: Any = None, exe: Any = None) -> list[Row]:
@@ -286,11 +350,9 @@ def of_tables(tables: Sequence[Table], workers: Any = None, exe: Any = None) -> 
 
 def stop_where_all_are_refused(found: Panel) -> None:
     """Raises the refusal of a panel whose rows all have one fault."""
-    refusals = [row.refusal for row in found]
-    causes = {getattr(it, "fault", type(it)) for it in refusals}
-    if len(causes) != 1 or None in refusals:
+    if len({row.fault for row in found}) != 1 or found[0].fault is None:
         return
-    first = refusals[0]
+    first = found[0].refusal
     if isinstance(first, Refused):
         raise AllRefused(first, found[0].key, len(found))
     raise BadData(f"all {len(found)} households are refused for one cause, the first, {found[0].key!r}, since {first}")
@@ -361,9 +423,9 @@ class LongFrame(Sheet):
         count = len(self.goods)
         self.kinds = [KEYS, *[PRICES] * count, *[QUANTITIES] * count, *[LEVELS] * len(of_levels)]
         self.own_forms, self.forms = forms, [AS_THEY_ARE, *[forms[0]] * count, *[forms[1]] * count, *[AS_THEY_ARE] * len(of_levels)]
-        self.are_as_they_are = all(it == AS_THEY_ARE for it in self.forms)
+        self.are_as_they_are = all(it.places is None for it in self.forms)
         # What fits is told by all households, which are rounded alike.
-        self.whole = Kinds(self._taken, self.goods)
+        self.whole = Kinds(self._taken, forms[0].shortest)
         self.own = list(zip(*columns)) if frame.length else []
         self.are_plain = self.are_as_they_are and all(exact.are_plain(column) for column in columns if column)
         self.households, self.unnamed = self._told_apart()
@@ -378,8 +440,27 @@ class LongFrame(Sheet):
         return values_of(levels, self.frame.length, "levels"), ["e"]
 
     def _taken(self) -> dict[str, Sequence[Any]]:
-        taken = [[as_taken(value, form) for column in side for value in column] for side, form in zip(self.sides, self.own_forms)]
-        return dict(zip((PRICES, QUANTITIES), taken))
+        return {kind: [value for column in side for value in column] for kind, side in zip((PRICES, QUANTITIES), self.sides)}
+
+    @property
+    def numbers(self) -> str | None:
+        """How numbers were taken where a float was taken for a decimal that is another number than the float; else None."""
+        taken = (column for side, form in zip(self.sides, self.own_forms) if form.shortest and form.places is None for column in side)
+        return exact.SHORTENED if any(exact.is_shortened(value) for column in taken for value in column) else None
+
+    def refuse_floats(self) -> None:
+        """Refuses the whole panel where a float needs more decimal places or digits than are taken, and nothing rounds it."""
+        columns = [column for side in self.sides for column in side]
+        found = []
+        for at, column in enumerate(columns, 1):
+            form = self.forms[at]
+            if form.places is None:
+                record = next((row for row, it in enumerate(column, 1) if isinstance(it, float) and exact.is_beyond(it, form.shortest)), None)
+                if record is not None:
+                    found.append((record, at + 1))
+        if found:
+            record, column = min(found)
+            raise self.refused("TooManyDecimals", {"record": record, "column": column})
 
     def _told_apart(self) -> tuple[list[_Household], list[_Household]]:
         """Returns the households, and the records of none, each for itself."""
@@ -459,7 +540,7 @@ class LongFrame(Sheet):
         found = []
         for own in block:
             if own.id in pooled:
-                found.append(Row(own.key, [own.id, *[""] * (len(COLUMNS) - 4), "Pooled", "", ""], own, pooled[own.id]))
+                found.append(Row(own.key, [own.id, *[""] * (len(COLUMNS) - 4), "Pooled", "", ""], own, partial(_as_it_is, pooled[own.id])))
             else:
                 found.append(next(rows))
         return found
@@ -494,9 +575,9 @@ class LongFrame(Sheet):
         at = {name: int(it[name]) for name in ("record", "column") if it[name]}
         if "record" in at:
             at["record"] = places[at["record"] - 1] + 1
-        refusal = self.refused(it["fault"], at)
-        it.update(household=own.id, record=_told(refusal.record), column=_told(refusal.column))
-        return Row(own.key, [it[name] for name in COLUMNS], own, refusal)
+        told = self.column_of(at["column"]) if "column" in at else None
+        it.update(household=own.id, record=_told(at.get("record")), column=_told(told))
+        return Row(own.key, [it[name] for name in COLUMNS], own, lambda: self.refused(it["fault"], at))
 
     def column_of(self, column: int) -> int | None:
         """Returns the number in the frame of a column of the long text; None where the frame has not it, as of levels by argument."""
@@ -512,10 +593,13 @@ class LongFrame(Sheet):
         if record and column:
             value = self.own[record - 1][column - 2]
             shown = "missing" if exact.is_missing(value) else exact.shown(value)
-            value = as_taken(value, self.forms[column - 1])
         hint = PANEL_HINTS.get(fault) or self._hint(fault, value, self.kinds[column - 1] if column else "")
         told = self.column_of(column) if column else column
         return Refused(fault, self.file, record, told, label=label, name=name, value=shown, hint=hint)
+
+
+def _as_it_is(wrong: Exception) -> Exception:
+    return wrong
 
 
 def refuse_other_kinds(first: Any, other: Any) -> None:

@@ -4,7 +4,8 @@ its rows. What is no number of the program's is refused by it, and the refusal i
 
 from __future__ import annotations
 
-from typing import Any, Iterable, Iterator, Sequence, Tuple
+import functools
+from typing import Any, Callable, Iterable, Iterator, Sequence, Tuple, TypeVar, cast
 
 from . import advice, exact, program
 from .advice import HINTS, LEVEL_HINT, LEVELS, MONEY, PRICES, QUANTITIES, WHOLE, Kinds
@@ -35,7 +36,7 @@ class Sheet:
         self.kinds = kinds
         self.forms = forms
         self.wanted = wanted
-        self.are_as_they_are = all(it == AS_THEY_ARE for it in forms)
+        self.are_as_they_are = all(it.places is None for it in forms)
         self.texts = [self._texts(number, row) for number, row in enumerate(rows, 1)]
 
     def _texts(self, record: int, row: list[Any]) -> list[str]:
@@ -69,13 +70,19 @@ class Sheet:
         """Returns the values of each kind, as they are taken."""
         if self.whole is not None:
             return self.whole
-        return Kinds(self._values, [name for name, kind in zip(self.names, self.kinds) if kind == PRICES])
+        return Kinds(self._values, all(it.shortest for it in self.forms))
 
     def _values(self) -> dict[str, Sequence[Any]]:
         found: dict[str, list[Any]] = {}
         for place, kind in enumerate(self.kinds):
-            found.setdefault(kind, []).extend(as_taken(row[place], self.forms[place]) for row in self.rows if place < len(row))
+            found.setdefault(kind, []).extend(row[place] for row in self.rows if place < len(row))
         return {**found}
+
+    @property
+    def numbers(self) -> str | None:
+        """How numbers were taken where a float was taken for a decimal that is another number than the float; else None."""
+        taken = (value for row in self.rows for value, form in zip(row, self.forms) if form.shortest and form.places is None)
+        return exact.SHORTENED if any(map(exact.is_shortened, taken)) else None
 
     def refused(self, fault: str, places: dict[str, int]) -> Refused:
         """Returns the refusal of this file, with the row's label, the column's name, what stands there, and a hint."""
@@ -87,7 +94,6 @@ class Sheet:
         if label is not None and name is not None and record and column and column <= len(self.rows[record - 1]):
             value = self.rows[record - 1][column - 1]
             shown = "missing" if exact.is_missing(value) else exact.shown(value)
-            value = as_taken(value, self.forms[column - 1])
         return Refused(fault, self.file, label=label, name=name, value=shown, hint=self._hint(fault, value, kind), **places)
 
     def _hint(self, fault: str, value: Any, kind: str) -> str | None:
@@ -101,7 +107,8 @@ class Sheet:
         if fault == "BadNumber" and kind == WHOLE and number is not None:
             return "this is counted, so it is whole"
         if fault == "TooManyDecimals" and number is not None:
-            return advice.too_many_places(value, kind, self.values())
+            may_be_a_line = kind == PRICES and self.kinds.count(PRICES) == 2 and not getattr(self, "own_money", False)
+            return advice.too_many_places(kind, self.values(), may_be_a_line)
         if fault == "TooLarge" and number is not None:
             return advice.too_large(value, kind, self.values())
         if fault in ("Unpaired", "OtherGoods", "Empty") and self.wanted:
@@ -110,26 +117,38 @@ class Sheet:
 
 
 Forms = Tuple[Form, Form]
-EXACT: Forms = (AS_THEY_ARE, AS_THEY_ARE)
+DEFAULT: Forms = (AS_THEY_ARE, AS_THEY_ARE)
 
 
-def forms_of(places: Any = None, numbers: Any = "exact") -> Forms:
-    """Returns how prices and quantities become texts: `places` is one number for both, or one for each."""
-    pair = tuple(places) if isinstance(places, (tuple, list)) else (places, places)
+def forms_of(decimals: Any = None, numbers: Any = "shortest") -> Forms:
+    """Returns how prices and quantities become texts: `decimals` is one number for both, or one for each."""
+    pair = tuple(decimals) if isinstance(decimals, (tuple, list)) else (decimals, decimals)
     if len(pair) != 2:
-        raise BadData(f"places is a whole number from 0 to {exact.MOST_PLACES}, or two of these, those of prices and of quantities: {exact.shown(places)}")
+        raise BadData(f"decimals is a whole number from 0 to {exact.MOST_PLACES}, or two of these, those of prices and of quantities: {exact.shown(decimals)}")
     if not isinstance(numbers, str) or numbers not in ("exact", "shortest"):
         raise BadData(
-            f"numbers is 'exact', by which a float is the binary fraction that it is, or 'shortest', by which it is the shortest decimal that"
-            f" gives it back, and not {exact.shown(numbers)}"
+            f"numbers is 'shortest', by which a float is the shortest decimal that gives it back, or 'exact', by which it is the binary"
+            f" fraction that it is, and not {exact.shown(numbers)}"
         )
-    prices, quantities = (None if number is None else program.whole(number, "places", 0, exact.MOST_PLACES) for number in pair)
+    prices, quantities = (None if number is None else program.whole(number, "decimals", 0, exact.MOST_PLACES) for number in pair)
     return Form(prices, numbers == "shortest"), Form(quantities, numbers == "shortest")
 
 
-def as_taken(value: Any, form: Form) -> Any:
-    """Returns the number that a value is taken for, before it is rounded."""
-    return exact.shortest_of(value) if form.shortest else value
+Call = TypeVar("Call", bound=Callable[..., Any])
+
+
+def takes_places(call: Call) -> Call:
+    """Lets a call take `places`, the older name of `decimals`."""
+
+    @functools.wraps(call)
+    def taken(*data: Any, **more: Any) -> Any:
+        if "places" in more:
+            if more.get("decimals") is not None:
+                raise BadData("places is the older name of decimals: give one of the two")
+            more["decimals"] = more.pop("places")
+        return call(*data, **more)
+
+    return cast(Call, taken)
 
 
 # ---- tables
@@ -148,7 +167,7 @@ class Table(Sheet):
         prices: list[list[Any]],
         quantities: list[list[Any]],
         labels: list[Any],
-        forms: Forms = EXACT,
+        forms: Forms = DEFAULT,
         levels: list[Any] | None = None,
         own_money: bool = False,
         whole: Kinds | None = None,
@@ -180,7 +199,7 @@ class Table(Sheet):
 
     def written(self, forms: Forms) -> Table:
         """Returns the same table with its numbers in these forms."""
-        return self if forms == EXACT else Table(self.goods, self.prices, self.quantities, self.labels, forms, self.levels, self.own_money)
+        return self if forms == DEFAULT else Table(self.goods, self.prices, self.quantities, self.labels, forms, self.levels, self.own_money)
 
     def levelled(self, levels: Any) -> Table:
         """Returns the same table with these levels."""
@@ -214,7 +233,8 @@ class Side:
         return len(self.rows)
 
 
-def from_frame(d: Any, *, places: Any = None, numbers: Any = "exact", levels: Any = None) -> Table:
+@takes_places
+def from_frame(d: Any, *, decimals: Any = None, numbers: Any = "shortest", levels: Any = None) -> Table:
     """Returns the table of a frame with columns `p_NAME` and `q_NAME` for each good, and perhaps `obs` and `e`.
 
     Other columns are left out. Where there is `obs`, it has the labels of the rows; else the frame's index has. `e` has a level
@@ -222,7 +242,7 @@ def from_frame(d: Any, *, places: Any = None, numbers: Any = "exact", levels: An
     column of households: those are a `panel`. Budget lines of two goods may be kept by their intercepts, `i_NAME` in place of
     `p_NAME`: they are exchanged, which is exact, and each row has money of its own then.
     """
-    forms = forms_of(places, numbers)
+    forms = forms_of(decimals, numbers)
     if isinstance(d, Table):
         return d.written(forms).levelled(levels)
     frame = Frame(d)
@@ -234,18 +254,19 @@ def from_frame(d: Any, *, places: Any = None, numbers: Any = "exact", levels: An
     return Table(goods, prices, quantities, labels, forms, own, price_columns[0].startswith("i_")).levelled(levels)
 
 
-def table(p: Any, q: Any = None, *, places: Any = None, numbers: Any = "exact", levels: Any = None) -> Table:
+@takes_places
+def table(p: Any, q: Any = None, *, decimals: Any = None, numbers: Any = "shortest", levels: Any = None) -> Table:
     """Returns the table of prices p and quantities q: nested lists or arrays, a row for each observation, or two frames.
 
     The columns of two frames are matched by name, where `p_` and `q_` in front do not count, and their rows by their
     labels, which have to be the same in the same order.
     """
-    forms = forms_of(places, numbers)
+    forms = forms_of(decimals, numbers)
     if q is None:
         if not isinstance(p, Table) and not is_frame(p):
             rows_of(p, "prices")
             raise BadData("there are no quantities: prices p and quantities q are two lists, arrays or frames, or a frame has both")
-        return from_frame(p, places=places, numbers=numbers, levels=levels)
+        return from_frame(p, decimals=decimals, numbers=numbers, levels=levels)
     if isinstance(p, Side) and isinstance(q, Side) and p.table is q.table:
         return p.table.written(forms).levelled(levels)
     if is_frame(p) != is_frame(q):
@@ -291,7 +312,7 @@ def _goods(frame: Frame, prefix: str) -> dict[str, Any]:
 # ---- what stands beside a table
 
 
-def beside(table: Table, data: Any, prefix: str, more: str | None = None, values: Any = None, forms: Forms = EXACT) -> Sheet:
+def beside(table: Table, data: Any, prefix: str, more: str | None = None, values: Any = None, forms: Forms = DEFAULT) -> Sheet:
     """Returns new prices (`p_`) or bundles (`q_`) of a table's goods, and where `more` names one a column more.
 
     The data are a frame, which may have that column too, or rows, or one row; else its values are one for each row or one
@@ -329,7 +350,7 @@ def _has_rows(data: Any) -> bool:
 class Choices:
     """Budgets, the choices from them, and the units that were asked for."""
 
-    def __init__(self, budgets: Any, choices: Any, per: int | None, forms: Forms = EXACT) -> None:
+    def __init__(self, budgets: Any, choices: Any, per: int | None, forms: Forms = DEFAULT) -> None:
         prices, quantities = forms
         self.per = None if per is None else program.whole(per, "per", *PER)
         self.budgets = _sheet("budgets", budgets, "p_", ["w"], {"p_": (PRICES, prices), "w": (MONEY, prices)})
@@ -401,7 +422,7 @@ class Technology(Sheet):
     """What a firm was seen to do: for each input its price `w_NAME` and how much of it was used, `x_NAME`; the output `y`, and its
     price `p` where this is known."""
 
-    def __init__(self, data: Any, places: Any = None, numbers: Any = "exact") -> None:
+    def __init__(self, data: Any, decimals: Any = None, numbers: Any = "shortest") -> None:
         frame = Frame(data, "technology")
         others = ["y", "p (where the output has a price)"]
         self.inputs = pairs_of(frame, "w_", "x_", "technology", others)
@@ -411,7 +432,7 @@ class Technology(Sheet):
         self.priced = near(frame, "p", "prices of the output")
         names = [*("w_" + name for name in self.inputs), *(["p"] if self.priced else []), *("x_" + name for name in self.inputs), "y"]
         kinds = [PRICES if name.startswith("w_") or name == "p" else QUANTITIES for name in names]
-        prices, quantities = forms_of(places, numbers)
+        prices, quantities = forms_of(decimals, numbers)
         asked = [prices if kind == PRICES else quantities for kind in kinds]
         super().__init__("technology", names, frame.rows(names), own_labels(frame.labels, frame.label_name), kinds, asked, ", ".join(wanted))
 
@@ -422,11 +443,11 @@ class Technology(Sheet):
     def quantity_scale(self) -> int:
         return self.power([place for place, kind in enumerate(self.kinds) if kind == QUANTITIES])
 
-    def asked(self, data: Any, places: Any = None, numbers: Any = "exact") -> Sheet:
+    def asked(self, data: Any, decimals: Any = None, numbers: Any = "shortest") -> Sheet:
         """Returns the outputs that are asked of it at new prices of its inputs."""
         frame = Frame(one_row(data), "asked")
         names = [*("w_" + name for name in self.inputs), "y"]
         need(frame, names, names, "asked")
-        prices, quantities = forms_of(places, numbers)
+        prices, quantities = forms_of(decimals, numbers)
         kinds, own = [PRICES] * len(self.inputs) + [QUANTITIES], [prices] * len(self.inputs) + [quantities]
         return Sheet("asked", names, frame.rows(names), numbered(frame.labels), kinds, own, ", ".join(names))

@@ -288,6 +288,17 @@ class Intercepts(unittest.TestCase):
                 call()
         panel = revealed.panel({**LINES, "s": [1, 1]}, "s", progress=False)
         self.assertNotIn("quasilinear", panel.text())
+        # one way from text to verdict: what is not told of the data stands nowhere
+        (row,) = panel
+        self.assertIsNone(row.quasilinear)
+        for said in (repr(panel), repr(row), panel._repr_html_()):
+            self.assertNotIn("quasilinear", said)
+        names, values = (line.split(",") for line in panel.csv().decode().splitlines())
+        self.assertEqual(dict(zip(names, values))["quasilinear"], "")
+        self.assertEqual(panel.records()[0]["quasilinear"], None)
+        found = revealed.verify(revealed.analyse(LINES))
+        self.assertIn("on the exchanged intercepts as prices of one unit of money, which is not told of the data: proved", repr(found))
+        self.assertNotIn("exchanged", repr(revealed.verify(revealed.analyse([[1, 2], [2, 1]], [[1, 2], [2, 1]]))))
         with self.assertRaisesRegex(BadData, "two intercepts"):
             revealed.from_frame({"i_x": [1], "q_x": [1]})
         with self.assertRaises(revealed.Refused) as caught:

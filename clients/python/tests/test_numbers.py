@@ -28,18 +28,56 @@ class Numbers(unittest.TestCase):
             (0.5, "0.5"),
             (-0.0, "0"),
             (1e6, "1000000"),
-            (3.18, "3.180000000000000159872115546022541821002960205078125"),
+            (3.18, "3.18"),
+            (23.86, "23.86"),
+            (0.000025, "0.000025"),
             (Decimal("3.18"), "3.18"),
             (Decimal("1E+2"), "100"),
             (Fraction(7, 8), "0.875"),
             (Fraction(-1, 20), "-0.05"),
         ]:
             self.assertEqual(exact.text_of(value), text, repr(value))
+        strict = exact.Form(None, False)
+        for value, text in [(3.18, "3.180000000000000159872115546022541821002960205078125"), (0.5, "0.5"), (5.0, "5"), ("3.18", "3.18")]:
+            self.assertEqual(exact.text_of(value, strict), text, repr(value))
 
     def test_rounded_where_it_is_asked_for(self):
-        # 2.675 is a float below two and 675 thousandths; 0.125 and 0.375 are halves, and go to the even digit
-        for value, text in [(2.675, "2.67"), (0.125, "0.12"), (0.375, "0.38"), (-0.001, "0.00"), (Fraction(1, 3), "0.33"), ("2.675", "2.68")]:
+        # the shortest decimal is rounded, half to even, whatever type has it; strictly 2.675 is a float below two and 675 thousandths
+        for value, text in [(2.675, "2.68"), (0.125, "0.12"), (0.375, "0.38"), (-0.001, "0"), (Fraction(1, 3), "0.33"), ("2.675", "2.68")]:
             self.assertEqual(exact.text_of(value, exact.Form(2)), text, repr(value))
+        self.assertEqual(exact.text_of(2.675, exact.Form(2, False)), "2.67")
+
+    def test_floats_that_are_taken(self):
+        # at most 6 decimal places and 7 digits; strictly, at most 6 binary places
+        for value, shortest, strict in [
+            (23.86, False, True),
+            (0.5, False, False),
+            (0.015625, False, False),
+            (0.0078125, True, True),
+            (0.000001, False, True),
+            (0.0000001, True, True),
+            (12345.67, False, True),
+            (12345.678, True, True),
+            (0.1 + 0.2, True, True),
+            (1 / 3, True, True),
+            (1e9, False, False),
+        ]:
+            self.assertEqual((exact.is_beyond(value), exact.is_beyond(value, False)), (shortest, strict), value)
+
+    def test_the_first_call_works(self):
+        rows = [[23.86, 1.1]], [[0.5, 12.05]]
+        self.assertEqual(table(*rows).csv(), b"p_1,p_2,q_1,q_2\n23.86,1.1,0.5,12.05\n")
+        self.assertEqual(table(*rows).numbers, "shortest decimals of doubles")
+        # no float is another number than its decimal
+        for p, q in [([[1, 0.5]], [[2.0, "1.1"]]), ([[1]], [[Decimal("23.86")]])]:
+            self.assertIsNone(table(p, q).numbers)
+        self.assertIsNone(table(*rows, numbers="exact").numbers)
+        self.assertIsNone(table(*rows, decimals=1).numbers)
+
+    def test_places_is_the_older_name_of_decimals(self):
+        self.assertEqual(table([[1.25]], [[2.35]], places=1).csv(), table([[1.25]], [[2.35]], decimals=1).csv())
+        with self.assertRaises(BadData):
+            table([[1]], [[1]], places=1, decimals=1)
 
     def test_no_numbers_stand_as_they_are(self):
         for value, text in [("NA", "NA"), ("1_000", "1_000"), ("1,5", "1,5"), (True, "True"), (float("inf"), "inf"), ("1e9999", "1e9999")]:
@@ -52,7 +90,7 @@ class Numbers(unittest.TestCase):
             table([[Fraction(1, 3)]], [[1]])
         refused = caught.exception
         self.assertEqual((refused.fault, refused.record, refused.column, refused.label, refused.name), ("TooManyDecimals", 1, 1, 1, "p_1"))
-        self.assertIn("places=(6, None)", str(refused))
+        self.assertIn("decimals=(6, None)", str(refused))
 
     def test_doubles_are_the_nearest(self):
         for number, double in [(Fraction(1), 1.0), (Fraction(4, 5), 0.8), (Fraction(0), 0.0), (Fraction(1, 3), 1 / 3), (Fraction(631, 867), 631 / 867)]:
@@ -64,15 +102,15 @@ class Numbers(unittest.TestCase):
         self.assertGreater(exact.nearest_double(Fraction(1, 10**400)), 0.0)
 
     def test_the_shortest_decimal_of_a_float(self):
-        form = exact.Form(None, True)
+        form = exact.Form()
         for value, text in [(3.18, "3.18"), (0.1 + 0.2, "0.30000000000000004"), (1e22, "10000000000000000000000"), (-0.0, "0"), (5, "5"), ("3.180", "3.180")]:
             self.assertEqual(exact.text_of(value, form), text)
         for value in (Decimal("3.18"), Fraction(159, 50), 3.18):
             self.assertEqual(exact.text_of(value, form), "3.18")
         # what is read is rounded, and not the binary fraction: 2.675 is a float below two and 675 thousandths
-        self.assertEqual((exact.text_of(2.675, exact.Form(2)), exact.text_of(2.675, exact.Form(2, True))), ("2.67", "2.68"))
-        self.assertEqual(table([[3.18, 1250, 1]], [[1.1, 1, 1]], numbers="shortest").csv(), b"p_1,p_2,p_3,q_1,q_2,q_3\n3.18,1250,1,1.1,1,1\n")
-        self.assertEqual(from_frame({"p_a": [3.18], "q_a": [0.3]}, numbers="shortest", places=(1, None)).csv(), b"p_a,q_a\n3.2,0.3\n")
+        self.assertEqual((exact.text_of(2.675, exact.Form(2, False)), exact.text_of(2.675, exact.Form(2))), ("2.67", "2.68"))
+        self.assertEqual(table([[3.18, 1250, 1]], [[1.1, 1, 1]]).csv(), b"p_1,p_2,p_3,q_1,q_2,q_3\n3.18,1250,1,1.1,1,1\n")
+        self.assertEqual(from_frame({"p_a": [3.18], "q_a": [0.3]}, decimals=(1, None)).csv(), b"p_a,q_a\n3.2,0.3\n")
         for numbers in ("short", 6, None, ["shortest"]):
             with self.assertRaises(BadData) as caught:
                 table([[1]], [[1]], numbers=numbers)
@@ -89,7 +127,7 @@ class Numbers(unittest.TestCase):
             (Decimal("1E-99999999"), "TooManyDecimals"),
             ("+" + "1" * 5000, "TooLarge"),
         ]:
-            for more in ({}, {"places": 2}, {"numbers": "shortest"}):
+            for more in ({}, {"decimals": 2}, {"numbers": "exact"}):
                 with self.assertRaises(Refused) as caught:
                     table([[1, value]], [[1, 1]], **more)
                 self.assertEqual((caught.exception.fault, caught.exception.record, caught.exception.name), (fault, 1, "p_2"))
@@ -99,7 +137,7 @@ class Numbers(unittest.TestCase):
             table([[1]], [[1]], levels=[long])
         with self.assertRaises(Refused):
             MenuChoices([["ab", "a", long]], None)
-        for call in (lambda: table([[1]], [[1]], places=long), lambda: table(long), lambda: power_of_test([[1]], [[1]], seed=long)):
+        for call in (lambda: table([[1]], [[1]], decimals=long), lambda: table(long), lambda: power_of_test([[1]], [[1]], seed=long)):
             with self.assertRaises(BadData) as caught:
                 call()
             self.assertIn("a number of some 5,000 digits", str(caught.exception))
@@ -164,7 +202,7 @@ class Tables(unittest.TestCase):
         for levels in ([799, 1000], ["799", "1000"], [Decimal(799), Fraction(1000)]):
             self.assertEqual(from_frame(d, levels=levels).csv(), made.csv())
         self.assertEqual(table([[1], [2]], [[3], [4]], levels=900).csv(), b"p_1,q_1,e\n1,3,900\n2,4,900\n")
-        self.assertEqual(table({"a": [1]}, {"a": [2]}, levels=[5], places=1).csv(), b"p_a,q_a,e\n1,2,5\n")
+        self.assertEqual(table({"a": [1]}, {"a": [2]}, levels=[5], decimals=1).csv(), b"p_a,q_a,e\n1,2,5\n")
         for call in (
             lambda: from_frame({**d, "e": [1, 2]}, levels=5),
             lambda: from_frame(d, levels=[5]),
@@ -209,7 +247,7 @@ class Tables(unittest.TestCase):
                 table(p)
         for places in ("2", 2.5, -1, 7, (1, 2, 3), True, (2, "x")):
             with self.assertRaises(BadData):
-                table([[1]], [[1]], places=places)
+                table([[1]], [[1]], decimals=places)
 
     def test_places_that_fit_seven_digits(self):
         for values, places in [
@@ -258,7 +296,7 @@ class Frames(unittest.TestCase):
             (numpy.int64(7), "7"),
             (numpy.float64(-0.0), "0"),
             (numpy.float32(0.5), "0.5"),
-            (numpy.float32(3.18), "3.1800000667572021484375"),
+            (numpy.float32(3.18), "3.18"),
             (numpy.bool_(True), "True"),
             (numpy.longdouble("1e-4900"), None),
         ]:
@@ -267,7 +305,8 @@ class Frames(unittest.TestCase):
             else:
                 self.assertEqual(exact.text_of(value), text)
         for value, text in [(numpy.float64(3.18), "3.18"), (numpy.float32(3.18), "3.18"), (numpy.float16(0.1), "0.1"), (numpy.int64(7), "7")]:
-            self.assertEqual(exact.text_of(value, exact.Form(None, True)), text)
+            self.assertEqual(exact.text_of(value), text)
+        self.assertEqual(exact.text_of(numpy.float32(3.18), exact.Form(None, False)), "3.1800000667572021484375")
         for value in (pandas.NA, pandas.NaT, numpy.nan):
             self.assertTrue(exact.is_missing(value))
 
@@ -282,6 +321,16 @@ class Frames(unittest.TestCase):
     def test_a_column_of_an_odd_name(self):
         d = pandas.DataFrame({"p_a": [1], "q_a": [2], "column_names": ["x"], "columns": ["y"]})
         self.assertEqual(from_frame(d).csv(), b"p_a,q_a\n1,2\n")
+
+    def test_what_files_are_read_as(self):
+        import io
+
+        d = pandas.read_csv(io.StringIO("obs,p_a,p_b,q_a,q_b\n1,23.86,1.5,1,2.25\n2,1.1,2.2,2,0.000025\n"))
+        self.assertEqual(from_frame(d).csv(), b"p_a,p_b,q_a,q_b\n23.86,1.5,1,2.25\n1.1,2.2,2,0.000025\n")
+        self.assertEqual(from_frame(d).numbers, "shortest decimals of doubles")
+        # a column of Stata's type `float`
+        d = d.astype({"p_a": "float32"})
+        self.assertEqual(from_frame(d).csv(), b"p_a,p_b,q_a,q_b\n23.86,1.5,1,2.25\n1.1,2.2,2,0.000025\n")
 
     def test_two_frames(self):
         p, q = pandas.DataFrame({"a": [1, 2], "b": [3, 4]}), pandas.DataFrame({"b": [5, 6], "a": [7, 8]})

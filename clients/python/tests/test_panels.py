@@ -6,6 +6,7 @@ import random
 import subprocess
 import sys
 import tempfile
+import time
 import unittest
 import unittest.mock
 from fractions import Fraction
@@ -83,9 +84,42 @@ class Faults(unittest.TestCase):
         (row, _) = panel({**frame(["A", "B"]), "p_a": [10**3000, 1]})
         self.assertEqual(row.fault, "TooLarge")
 
+    def test_a_panel_is_shown_short(self):
+        found = panel(frame([f"h{at}" for at in range(40) for _ in "ab"]))
+        said = repr(found)
+        self.assertLessEqual(len(said.splitlines()), 12, said)
+        self.assertTrue(said.startswith("panel of 40 households by 'household', 40 with verdicts\ngarp holds 0, violated 40; efficiency (CCEI) mean"), said)
+        self.assertIn(".. and 34 rows more", said)
+        html = found._repr_html_()
+        self.assertEqual((html.count("<table>"), html.count("<tr>")), (1, 7))
+        # what stands in the data is no markup
+        self.assertIn("&lt;b&gt;", panel(frame(["<b>"] * 2))._repr_html_())
+        self.assertIsInstance(found[:2], revealed.Panel)
+        self.assertEqual([row.key for row in found[:2]], ["h0", "h1"])
+
+    def test_faults_are_grouped_by_cause(self):
+        d = frame([f"h{at}" for at in range(6) for _ in "ab"])
+        d["q_a"] = [1, 2, 1, "x", 1, "y", 1, "", 0, 2, 1, 2]
+        d["q_b"][8] = 0
+        found = panel(d)
+        self.assertEqual([(it["fault"], it["count"], it["key"]) for it in found.faults()], [("BadNumber", 3, "h1"), ("ZeroBundle", 1, "h4")])
+        self.assertIn("3 without verdicts: BadNumber, the first 'h1'\n1 without verdicts: ZeroBundle, the first 'h4'", repr(found))
+        self.assertIn("row 4, column 'q_a', value 'x'", found.faults()[0]["message"])
+
+    def test_refusing_is_not_slower_than_answering(self):
+        """Why a household has no verdicts is reckoned where it is looked at, and not for each."""
+        d = {"household": [f"h{at // 2}" for at in range(4000)], "p_a": ["0.12345678"] * 4000, "p_b": [1, 2] * 2000, "q_a": [1, 2] * 2000, "q_b": [2, 1] * 2000}
+        d["p_a"][0] = d["p_a"][1] = 1
+        began = time.process_time()
+        found = panel(d)
+        self.assertLess(time.process_time() - began, 10)
+        self.assertEqual(found.faults()[0]["count"], 1999)
+
     def test_more_records_than_a_table_has(self):
         found = panel(frame(["A"] * 513 + ["B"] * 512))
         self.assertEqual([(row.fault, row.observations) for row in found], [("TooManyRecords", None), (None, 512)])
+        self.assertNotIn("columns", found[0].message)
+        self.assertIn("at most 512 observations", found[0].message)
 
 
 class Answers(unittest.TestCase):

@@ -88,14 +88,15 @@ class Floats(unittest.TestCase):
     def test_a_float_is_not_rounded_unasked(self):
         d = {**YEARS, "p_bread": [3.18, 2.5]}
         with self.assertRaises(Refused) as caught:
-            revealed.analyse(revealed.from_frame(d))
+            revealed.analyse(revealed.from_frame(d), numbers="exact")
         refused = caught.exception
         self.assertEqual((refused.fault, refused.record, refused.label, refused.name, refused.status), ("TooManyDecimals", 1, 2024, "p_bread", 4))
-        self.assertIn("places=(6, None)", str(refused))
-        asked = revealed.analyse(revealed.from_frame(d, places=2))
+        self.assertIn("decimals=(6, None)", str(refused))
+        asked = revealed.analyse(revealed.from_frame(d, decimals=2))
         text = revealed.analyse(revealed.from_frame({**d, "p_bread": ["3.18", "2.5"]}))
         self.assertEqual(asked.certificate.data, text.certificate.data)
-        self.assertEqual(revealed.analyse(revealed.from_frame(d), places=(2, 0)).certificate.data, text.certificate.data)
+        self.assertEqual(revealed.analyse(revealed.from_frame(d), decimals=(2, 0)).certificate.data, text.certificate.data)
+        self.assertEqual(revealed.analyse(d).certificate.data, text.certificate.data)
 
     def test_zero_with_a_sign(self):
         self.assertEqual(revealed.certify(P, [[1, -0.0], [2, 1]]).data, revealed.certify(P, [[1, 0], [2, 1]]).data)
@@ -311,7 +312,7 @@ class Panels(unittest.TestCase):
         self.assertEqual((found[3].refusal.fault, found[3].refusal.label, found[1].verdict.labels), ("ZeroPrice", 6, [2, 5]))
         last = found.records()[3]
         self.assertEqual((last["fault"], last["record"], last["column"]), ("ZeroPrice", 6, 2))
-        self.assertIn("ZeroPrice record 6 column 2 (row 6, column 'p_a', value 0)", found[3].message)
+        self.assertIn("row 6, column 'p_a', value 0: prices are above 0 [ZeroPrice record 6 column 2]", found[3].message)
         self.assertEqual((found[1].efficiency, found[1].efficiency_floor, found[1].ccei), (Fraction(4, 5), 0.8, 0.8))
         self.assertTrue(revealed.verify(found[1].verdict))
 

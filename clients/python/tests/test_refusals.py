@@ -6,6 +6,7 @@ import pathlib
 import shutil
 import stat
 import tempfile
+import time
 import unittest
 
 import revealed
@@ -52,49 +53,90 @@ class Rounding(unittest.TestCase):
     def test_the_most_places_that_fit(self):
         fault, hint = self.hint([[1 / 87.13, 1 / 33.61], [1 / 45.5, 1 / 62.04]], [[43.2, 16.95], [20.1, 34.63]])
         self.assertEqual(fault, "TooManyDecimals")
-        self.assertIn("places=(6, 5) rounds to the most places that fit", hint)
-        self.assertIn("b of the first good and a of the second (docs/USING.md", hint)
+        self.assertIn("decimals=(6, None) rounds prices and quantities to the most decimal places that fit", hint)
+        self.assertIn("columns i_NAME", hint)
         for p, q, argument in [
-            ([[3.18, 1250]], [[1, 1]], "places=(3, None)"),
-            ([[1, 2]], [[1 / 3, 123456]], "places=(None, 1)"),
-            ([[0.1, 2, 3]], [[1, 1, 1.1]], "places=(6, 6)"),
+            ([[3.1807123, 1250]], [[1, 1]], "decimals=(3, None)"),
+            ([[1, 2]], [[1 / 3, 123456]], "decimals=(None, 1)"),
+            ([[1 / 3, 2, 3]], [[1, 1, 1 / 7]], "decimals=(6, 6)"),
         ]:
             fault, hint = self.hint(p, q)
             self.assertEqual(fault, "TooManyDecimals")
             self.assertIn(argument, hint)
-            places = eval(argument.partition("=")[2])
-            self.assertIsNotNone(revealed.analyse(p, q, places=places).garp)
+            decimals = eval(argument.partition("=")[2])
+            self.assertIsNotNone(revealed.analyse(p, q, decimals=decimals).garp)
 
-    def test_the_shortest_decimal_is_offered_where_it_fits(self):
+    def test_data_of_a_file_are_taken(self):
+        """What read_csv makes of 23.86 is a float, and its shortest decimal is what the file has."""
+        for p, q in [([[23.86, 1250]], [[1, 1]]), ([[0.1, 2, 3]], [[1, 1, 1.1]])]:
+            verdict = revealed.analyse(p, q)
+            self.assertTrue(verdict.garp)
+            self.assertEqual(repr(verdict).splitlines()[-1], "numbers: shortest decimals of doubles")
+            self.assertTrue(revealed.verify(verdict))
+            self.assertTrue(revealed.check((p, q), verdict))
+        self.assertNotIn("numbers:", repr(revealed.analyse([[0.5, 1]], [[1, 2]])))
+
+    def test_strict_reading_is_an_option(self):
         for p, q, good in [
             ([[3.18, 1250]], [[1, 1]], True),
             ([[0.1, 2, 3]], [[1, 1, 1.1]], True),
-            ([[0.1 + 0.2, 1]], [[1, 1]], False),
             ([[3.18, 1]], [[1 / 3, 1]], False),
-            ([[3.18, 123456]], [[1, 1]], False),
         ]:
-            fault, hint = self.hint(p, q)
-            self.assertEqual((fault, "numbers='shortest' takes each float as the shortest decimal that gives it back" in hint), ("TooManyDecimals", good))
-            if good:
-                self.assertIsNotNone(revealed.analyse(p, q, numbers="shortest").garp)
-        self.assertIn("here 3.18;", self.hint([[3.18, 1250]], [[1, 1]])[1])
-        fault, hint = self.hint([[0.1 + 0.2, 1]], [[1, 1]], numbers="shortest")
-        self.assertTrue(hint.startswith("this is 0.30000000000000004, and"), hint)
+            fault, hint = self.hint(p, q, numbers="exact")
+            self.assertEqual((fault, "numbers='shortest', the default" in hint), ("TooManyDecimals", good))
+        self.assertTrue(revealed.analyse([[0.5, 1]], [[0.25, 1]], numbers="exact").garp)
+
+    def test_a_number_that_is_refused_takes_at_most_four_lines(self):
+        for more in ({}, {"numbers": "exact"}):
+            for p, q in [([[1 / 3, 1]], [[1, 2]]), ([[1 / 3, 1, 1]], [[1, 2, 0.1]]), ([[1, 1]], [[0.1 + 0.2, 1]])]:
+                with self.assertRaises(Refused) as caught:
+                    revealed.analyse(p, q, **more)
+                said = str(caught.exception)
+                self.assertLessEqual(len(said.splitlines()), 4, said)
+                self.assertTrue(said.startswith("row 1, column '"), said)
+                self.assertTrue(said.endswith("]"), said)
+                self.assertIn("decimals=(", said)
+        self.assertIn("as do 2 other numbers", self.hint([[1 / 3, 1 / 7]], [[1 / 9, 1]])[1])
+        self.assertIn("as does 1 other number.", self.hint([[1 / 3, 1 / 7]], [[1, 1]])[1])
+
+    def test_floats_that_need_more_refuse_the_whole_panel_at_once(self):
+        d = {"home": ["u", "u", "v"], "p_a": [3.18, 2.5, 1.1], "p_b": [1, 1, 12500.5], "q_a": [1, 1, 1], "q_b": [2, 3, 4]}
+        found = revealed.panel(d, "home", progress=False)
+        self.assertEqual([row.fault for row in found], [None, None])
+        self.assertEqual(found.numbers, "shortest decimals of doubles")
+        with self.assertRaises(Refused) as caught:
+            revealed.panel({**d, "q_a": [1, 0.1 + 0.2, 1 / 3]}, "home", progress=False, exe="/bin/true")
+        refused = caught.exception
+        self.assertEqual((refused.fault, refused.record, refused.column, refused.label, refused.name), ("TooManyDecimals", 2, 4, 2, "q_a"))
+        self.assertIn("decimals=(None, 6)", str(refused))
+        self.assertLessEqual(len(str(refused).splitlines()), 4)
+        # strictly, 3.18 is one
+        with self.assertRaises(Refused) as caught:
+            revealed.panel(d, "home", progress=False, numbers="exact", exe="/bin/true")
+        self.assertEqual((caught.exception.record, caught.exception.name), (1, "p_a"))
+        self.assertIn("numbers='shortest'", str(caught.exception))
+        self.assertEqual([row.status for row in revealed.panel(d, "home", decimals=(2, None), progress=False)], [0, 0])
+
+    def test_refusing_a_panel_is_quick(self):
+        rows = range(5000 * 20)
+        d = {"home": [at // 20 for at in rows], **{f"{kind}_{good}": [1 / (7 + at % 83) for at in rows] for kind in "pq" for good in "ab"}}
+        began = time.perf_counter()
+        with self.assertRaises(Refused):
+            revealed.panel(d, "home", progress=False, exe="/bin/true")
+        self.assertLess(time.perf_counter() - began, 10)
 
     def test_a_panel_that_is_refused_for_one_cause_stops(self):
-        d = {"home": ["u", "u", "v"], "p_a": [3.18, 2.5, 1.1], "p_b": [1, 1, 12500.5], "q_a": [1, 1, 1], "q_b": [2, 3, 4]}
+        d = {"home": ["u", "u", "v"], "p_a": ["3.1800001", "2.5", "1.0000001"], "p_b": [1, 1, "12500.5"], "q_a": [1, 1, 1], "q_b": [2, 3, 4]}
         with self.assertRaises(revealed.AllRefused) as caught:
             revealed.panel(d, "home", progress=False)
         found = caught.exception
         self.assertEqual((found.fault, found.key, found.count, found.record, found.name), ("TooManyDecimals", "u", 2, 1, "p_a"))
-        self.assertTrue(str(found).startswith("all 2 households are refused for one cause, the first, 'u': TooManyDecimals record 1 column 2"), str(found))
+        self.assertTrue(str(found).startswith("all 2 households are refused for one cause, the first, 'u': row 1, column 'p_a'"), str(found))
         # what fits is told by all of them: 12500.5 leaves two places
-        self.assertIn("places=(2, None)", found.hint)
-        self.assertIn("numbers='shortest'", found.hint)
-        self.assertEqual([row.status for row in revealed.panel(d, "home", numbers="shortest", progress=False)], [0, 0])
-        self.assertEqual([row.status for row in revealed.panel(d, "home", places=(2, None), progress=False)], [0, 0])
+        self.assertIn("decimals=(2, None)", found.hint)
+        self.assertEqual([row.status for row in revealed.panel(d, "home", decimals=(2, None), progress=False)], [0, 0])
         # two causes, or one household with an answer, and the others go on
-        for p_a in ([3.18, 2.5, 0], [3.18, 2.5, 1]):
+        for p_a in (["3.1800001", 2.5, 0], ["3.1800001", 2.5, 1]):
             self.assertEqual(revealed.panel({**d, "p_a": p_a}, "home", progress=False)[0].status, 4)
 
     def test_intercepts_are_spoken_of_where_a_price_is_rounded(self):
@@ -105,12 +147,12 @@ class Rounding(unittest.TestCase):
     def test_too_large_says_the_limit_and_the_way_out(self):
         fault, hint = self.hint([[1.25, 100000]], [[1, 1]])
         self.assertEqual(fault, "TooLarge")
-        for said in ("9,999,999", "1 places fit", "places=(1, None)"):
+        for said in ("9,999,999", "1 decimal places fit", "decimals=(1, None)"):
             self.assertIn(said, hint)
         fault, hint = self.hint([[1, 1]], [[1234.567891, 7.123457]])
-        self.assertIn("places=(None, 3)", hint)
-        self.assertIsNotNone(revealed.analyse([[1, 1]], [[1234.567891, 7.123457]], places=(None, 3)).garp)
-        self.assertIn("places=(6, 3)", self.hint([[1 / 3, 1]], [[1234.567891, 7.123457]], places=(6, 6))[1])
+        self.assertIn("decimals=(None, 3)", hint)
+        self.assertIsNotNone(revealed.analyse([[1, 1]], [[1234.567891, 7.123457]], decimals=(None, 3)).garp)
+        self.assertIn("decimals=(6, 3)", self.hint([[1 / 3, 1]], [[1234.567891, 7.123457]], decimals=(6, 6))[1])
         for p, q, said in [([[10**7]], [[1]], "a smaller unit of the good"), ([[1]], [[10**7]], "a larger unit of the good")]:
             self.assertIn(said, self.hint(p, q)[1])
 
@@ -248,7 +290,7 @@ class Crafted(unittest.TestCase):
             lambda: revealed.analyse(valued),
             lambda: revealed.analyse(P, Q, levels=text),
             lambda: revealed.analyse(P, Q, levels=[text, 1]),
-            lambda: revealed.analyse(P, Q, places=text),
+            lambda: revealed.analyse(P, Q, decimals=text),
             lambda: revealed.analyse(P, Q, exe=text or "/nowhere"),
             lambda: revealed.analyse(text),
             lambda: revealed.analyse({text: [1]}),

@@ -276,6 +276,7 @@ class Texts(unittest.TestCase):
     def test_no_certificates(self):
         good = certificate(RANKS)
         self.assertTrue(verify_table(APART, good))
+        self.assertTrue(verify_table(APART, good.replace(b'"kind"', b'"kind": 7, "kind"')))
         for text, number in [
             (b"", 0),
             (good[:-1], 0),
@@ -286,6 +287,9 @@ class Texts(unittest.TestCase):
             (good.replace(b"[1, 1]", b"[1, 1e999]"), 0),
             (good.replace(b'"table"', b'"\\ud800"'), 0),
             (good.replace(b"[1, 1]", b"[" * 200 + b"]" * 200), 0),
+            # a name that stands twice: its first value counts for nothing, and is JSON all the same
+            (good.replace(b'"kind"', b'"kind": ' + b"[" * 200 + b"]" * 200 + b', "kind"'), 0),
+            (good.replace(b'"kind"', b'"kind": "\\ud800", "kind"'), 0),
             (good.replace(b'"table"', b'"random"'), 0),
             (good.replace(b'"version": 1', b'"version": 2'), 0),
             (good.replace(b'"version": 1', b'"version": 3'), 0),

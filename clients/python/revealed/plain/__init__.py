@@ -19,7 +19,7 @@ from typing import Any
 from .. import exact
 from ..answers import Answers, Certificate, Verdict, demands, welfares
 from ..faults import BadData
-from ..tables import Forms, Sheet, Table, beside, forms_of, table
+from ..tables import Forms, Sheet, Table, beside, forms_of, table, takes_places
 from ..verifier import NoTable, tables
 from . import axioms, bounds, chains
 
@@ -32,29 +32,32 @@ class PlainVerdict(Verdict):
     proved = False
 
 
-def analyse(p: Any, q: Any = None, *, levels: Any = None, places: Any = None, numbers: Any = "exact") -> PlainVerdict:
+@takes_places
+def analyse(p: Any, q: Any = None, *, levels: Any = None, decimals: Any = None, numbers: Any = "shortest") -> PlainVerdict:
     """Returns the verdicts on a table, as `revealed.analyse` does, and withholds none. No proof stands behind them."""
-    own = table(p, q, places=places, numbers=numbers, levels=levels)
+    own = table(p, q, decimals=decimals, numbers=numbers, levels=levels)
     costs = costs_of(own)
     garp = axioms.garp(costs)
     items = [garp, axioms.afriat(costs, garp), axioms.efficiency(costs), chains.homothetic(costs), chains.quasilinear(costs)]
     return PlainVerdict(own, certificate(items, costs.table.levels))
 
 
-def demand_bounds(p: Any, q: Any = None, new: Any = None, m: Any = None, *, places: Any = None, numbers: Any = "exact") -> Answers:
+@takes_places
+def demand_bounds(p: Any, q: Any = None, new: Any = None, m: Any = None, *, decimals: Any = None, numbers: Any = "shortest") -> Answers:
     """Returns the Demand on each new budget, as `revealed.demand_bounds` does, and withholds none. No proof stands behind it."""
-    own = table(p, q, places=places, numbers=numbers)
-    costs, sheet = without_levels(own), asked(own, new, "m", m, forms_of(places, numbers))
+    own = table(p, q, decimals=decimals, numbers=numbers)
+    costs, sheet = without_levels(own), asked(own, new, "m", m, forms_of(decimals, numbers))
     records = scaled(sheet, own, money=True)
     garp = axioms.garp(costs)
     items = [garp, *(bounds.demand(costs, garp, prices, spent) for *prices, spent in records)]
     return unproved(demands(own, sheet, certificate(items)))
 
 
-def welfare_bounds(p: Any, q: Any = None, new: Any = None, *, places: Any = None, numbers: Any = "exact") -> Answers:
+@takes_places
+def welfare_bounds(p: Any, q: Any = None, new: Any = None, *, decimals: Any = None, numbers: Any = "shortest") -> Answers:
     """Returns the Welfare bounds at new prices, as `revealed.welfare_bounds` does, and withholds none. No proof stands behind it."""
-    own = table(p, q, places=places, numbers=numbers)
-    costs, sheet = without_levels(own), asked(own, new, None, None, forms_of(places, numbers))
+    own = table(p, q, decimals=decimals, numbers=numbers)
+    costs, sheet = without_levels(own), asked(own, new, None, None, forms_of(decimals, numbers))
     garp = axioms.garp(costs)
     items = [bounds.welfare(costs, garp, prices, t) for prices in scaled(sheet, own) for t in range(costs.n)]
     return unproved(welfares(own, sheet, certificate([garp, *items])))

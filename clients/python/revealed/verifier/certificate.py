@@ -222,6 +222,15 @@ def _is_whole(value, least, greatest):
     return type(value) is int and least <= value <= greatest
 
 
+class _Members(dict):
+    """An object. Of a name that stands twice the last value counts; the others are `hidden`, and are JSON all the same."""
+
+    def __init__(self, pairs):
+        super().__init__(pairs)
+        last = {name: at for at, (name, _) in enumerate(pairs)}
+        self.hidden = [value for at, (name, value) in enumerate(pairs) if last[name] != at]
+
+
 class _NoWhole(float):
     """A number that is not written as a whole one."""
 
@@ -229,7 +238,7 @@ class _NoWhole(float):
 def _value(data):
     """Returns the JSON value that these bytes spell."""
     try:
-        value = json.loads(data.decode("utf-8"), parse_int=_whole, parse_float=_float, parse_constant=_no_number)
+        value = json.loads(data.decode("utf-8"), parse_int=_whole, parse_float=_float, parse_constant=_no_number, object_pairs_hook=_Members)
     except (ValueError, RecursionError) as wrong:
         raise NoCertificate(f"no JSON: {wrong}") from None
     _look_at_texts(value, 128)
@@ -255,7 +264,7 @@ def _look_at_texts(value, levels):
     if isinstance(value, (list, dict)):
         if levels == 1:
             raise NoCertificate("no JSON: nested too deep")
-        for entry in value if isinstance(value, list) else [*value, *value.values()]:
+        for entry in value if isinstance(value, list) else [*value, *value.values(), *value.hidden]:
             _look_at_texts(entry, levels - 1)
     elif isinstance(value, str):
         try:

@@ -1,14 +1,14 @@
 # Random behaviour on the budgets of a panel, and tables of a panel.
 
 rp_random_panel <- function(panel, times = NULL, seed = 1, workers = NULL, progress = FALSE, exe = NULL) {
-  if (!inherits(panel, "rp_panel") || panel$ask == "power") bad_data("random behaviour is drawn on the budgets of a panel of tests or of pumps")
-  if ("draw" %in% c(panel$id, names(panel$data))) bad_data("a column has the name draw, which random behaviour takes for its own")
+  if (!inherits(panel, "rp_panel") || inside(panel)$ask == "power") bad_data("random behaviour is drawn on the budgets of a panel of tests or of pumps")
+  if ("draw" %in% c(inside(panel)$id, names(inside(panel)$data))) bad_data("a column has the name draw, which random behaviour takes for its own")
   own <- which(answered(panel))
   if (!length(own)) bad_data("no household has an answer, so there are no budgets")
   # A thousand behaviours, or a few more, where nothing is said.
   times <- if (is.null(times)) ceiling(1000 / length(own)) else as.integer(whole_word(times, "times", "1", "1000000"))
   drawn <- drawn_data(panel, own, times, seed_of(seed))
-  rp_panel(drawn, c(panel$id, "draw"), ask = panel$ask, workers = workers, progress = progress, exe = exe)
+  rp_panel(drawn, c(inside(panel)$id, "draw"), ask = inside(panel)$ask, workers = workers, progress = progress, exe = exe)
 }
 
 seed_of <- function(seed) as.numeric(whole_word(seed, "seed", "0", "4294967295"))
@@ -26,8 +26,8 @@ drawn_data <- function(panel, own, times, seed) {
   quantities <- lapply(goods, function(good) unlist(lapply(drawn, function(all) lapply(all, function(it) it[, good]))))
   levels <- unlist(lapply(tables, `[[`, "levels"))
   frame_of(c(
-    lapply(panel$keys, `[`, household), list(draw = rep(seq_len(times), each = sum(rows))),
-    if (!"obs" %in% panel$id) list(obs = rep(sequence(rows), times)),
+    lapply(inside(panel)$keys, `[`, household), list(draw = rep(seq_len(times), each = sum(rows))),
+    if (!"obs" %in% inside(panel)$id) list(obs = rep(sequence(rows), times)),
     named(prices, price_names(tables[[1]])), named(quantities, paste0("q_", tables[[1]]$goods)), if (!is.null(levels)) list(e = rep(levels, times))
   ))
 }
@@ -113,7 +113,7 @@ rp_panel_table <- function(panel, random = NULL, what = c("summary", "households
                            digits = 3, names = c("Households", "Random"),
                            tests = c("garp", "homothetic", "quasilinear")) {
   if (!inherits(panel, "rp_panel")) bad_data("a table is made of what rp_panel gives")
-  if (!is.null(random) && (!inherits(random, "rp_panel") || random$ask != panel$ask)) {
+  if (!is.null(random) && (!inherits(random, "rp_panel") || inside(random)$ask != inside(panel)$ask)) {
     bad_data("random is a panel of the same kind, as rp_random_panel makes it")
   }
   digits <- as.integer(whole_word(digits, "digits", "1", "9"))
@@ -121,7 +121,7 @@ rp_panel_table <- function(panel, random = NULL, what = c("summary", "households
   if (!is.character(tests) || !length(tests) || !all(tests %in% c("garp", "homothetic", "quasilinear"))) {
     bad_data("tests are some of 'garp', 'homothetic', 'quasilinear'")
   }
-  tests <- intersect(tests, tests_of(panel$own_money))
+  tests <- intersect(tests, tests_of(inside(panel)$own_money))
   cells <- if (what == "households") household_cells(panel, digits, tests) else {
     sides <- lapply(c(list(panel), if (!is.null(random)) list(random)), summary_cells, digits = digits, tests = tests)
     named(c(list(names(sides[[1]])), lapply(sides, unname)), c("", names[seq_along(sides)]))
@@ -165,16 +165,16 @@ summary_cells <- function(panel, digits, tests) {
     }
     named(found, paste0(word, ", ", c("mean", "least", "first quartile", "median", "third quartile", "greatest")))
   }
-  switch(panel$ask,
+  switch(inside(panel)$ask,
     test = c(
-      common, "GARP holds" = share_told(own$garp), index(own$efficiency, "CCEI"),
-      "CCEI of at least 0.90" = share_told(own$efficiency >= exact("9/10")), "CCEI of at least 0.95" = share_told(own$efficiency >= exact("19/20")),
-      "CCEI of at least 0.99" = share_told(own$efficiency >= exact("99/100")),
+      common, "GARP holds" = share_told(own$garp), index(own$efficiency_exact, "CCEI"),
+      "CCEI of at least 0.90" = share_told(own$efficiency_exact >= exact("9/10")), "CCEI of at least 0.95" = share_told(own$efficiency_exact >= exact("19/20")),
+      "CCEI of at least 0.99" = share_told(own$efficiency_exact >= exact("99/100")),
       if ("homothetic" %in% tests) c("Homothetic holds" = share_told(own$homothetic)),
       if ("quasilinear" %in% tests) c("Quasilinear holds" = share_told(own$quasilinear))
     ),
-    pump = c(common, "GARP holds" = share_told(own$garp), index(own$pump, "Money pump")),
-    power = c(common, index(own$power, "Power"))
+    pump = c(common, "GARP holds" = share_told(own$garp), index(own$pump_exact, "Money pump")),
+    power = c(common, index(own$power_exact, "Power"))
   )
 }
 
@@ -188,18 +188,18 @@ household_cells <- function(panel, digits, tests) {
     found
   }
   told <- function(x) ifelse(is.na(x), "", as.character(x))
-  own <- switch(panel$ask,
+  own <- switch(inside(panel)$ask,
     test = c(
-      list(GARP = word(frame$garp), CCEI = index(frame$efficiency), exactly = told(bare(frame$efficiency))),
+      list(GARP = word(frame$garp), CCEI = index(frame$efficiency_exact), exactly = told(bare(frame$efficiency_exact))),
       lapply(frame[intersect(c("homothetic", "quasilinear"), tests)], word)
     ),
-    pump = list(GARP = word(frame$garp), `money pump` = index(frame$pump), exactly = told(bare(frame$pump))),
+    pump = list(GARP = word(frame$garp), `money pump` = index(frame$pump_exact), exactly = told(bare(frame$pump_exact))),
     power = list(
-      violations = sub("/.*", "", panel$texts[, "power"]), draws = sub(".*/", "", panel$texts[, "power"]), power = index(frame$power)
+      violations = sub("/.*", "", inside(panel)$texts[, "power"]), draws = sub(".*/", "", inside(panel)$texts[, "power"]), power = index(frame$power_exact)
     )
   )
-  keys <- lapply(panel$keys, function(it) as.character(it))
-  refused <- if (!all(is_answer)) list(refused = panel$texts[, "fault"])
+  keys <- lapply(inside(panel)$keys, function(it) as.character(it))
+  refused <- if (!all(is_answer)) list(refused = inside(panel)$texts[, "fault"])
   c(keys, own, refused)
 }
 

@@ -1,7 +1,7 @@
 # What stands beside a table: new prices, bundles; and data of other shapes: budgets and choices, technologies, menus.
 
 # Returns new prices of a table's goods, with what is spent where `m` is wanted.
-new_prices <- function(table, new, m = NULL, wants_m = FALSE, digits = NULL) {
+new_prices <- function(table, new, m = NULL, wants_m = FALSE, forms = NULL) {
   new <- plain_frame(if (is.null(dim(new))) one_row(new, "new prices are") else new)
   if (wants_m && is.data.frame(new) && "m" %in% names(new) && !"m" %in% table$goods) {
     if (is.null(m)) m <- new[["m"]]
@@ -22,16 +22,16 @@ new_prices <- function(table, new, m = NULL, wants_m = FALSE, digits = NULL) {
     names <- c(names, "m")
     kinds <- c(kinds, "money")
   }
-  sheet("new", header, kinds, names, columns, row_labels(labels_or_numbers(side)), digits)
+  sheet("new", header, kinds, names, columns, row_labels(labels_or_numbers(side)), forms)
 }
 
 # Returns bundles of a table's goods.
-bundles_of <- function(table, bundles, digits = NULL) {
+bundles_of <- function(table, bundles, forms = NULL) {
   if (is.null(dim(bundles))) bundles <- one_row(bundles, "bundles are")
   side <- of_goods(side_of(bundles, "q_", "bundles"), table$goods, "bundles")
   numbers <- seq_along(side$columns)
   kinds <- rep("quantity", length(numbers))
-  sheet("bundles", sprintf("q_%d", numbers), kinds, paste0("q_", table$goods), side$columns, row_labels(labels_or_numbers(side)), digits)
+  sheet("bundles", sprintf("q_%d", numbers), kinds, paste0("q_", table$goods), side$columns, row_labels(labels_or_numbers(side)), forms)
 }
 
 labels_or_numbers <- function(side) if (is.null(side$labels)) seq_len(side$count) else side$labels
@@ -57,11 +57,11 @@ one_row <- function(new, what) {
 # ---- budgets and choices
 
 # Returns the sheets of budgets and of choices from them.
-choices_of <- function(budgets, choices, per, digits) {
+choices_of <- function(budgets, choices, per, forms) {
   if (inherits(budgets, "rp_choices")) return(budgets)
-  first <- loose_sheet("budgets", budgets, "p_", "price", character(), c(w = "money"), digits)
+  first <- loose_sheet("budgets", budgets, "p_", "price", character(), c(w = "money"), forms)
   labels <- if (is.data.frame(budgets) && "obs" %in% names(budgets)) first$labels
-  second <- loose_sheet("choices", choices, "q_", "quantity", c(budget = ""), c(n = ""), digits)
+  second <- loose_sheet("choices", choices, "q_", "quantity", c(budget = ""), c(n = ""), forms)
   if (!is.null(labels)) second <- by_budget(second, labels)
   goods <- substring(first$names[startsWith(first$header, "p_")], 3)
   theirs <- substring(second$names[startsWith(second$header, "q_")], 3)
@@ -83,7 +83,7 @@ by_budget <- function(choices, labels) {
 
 # Returns a sheet of a frame that has other columns beside those of goods: a matrix begins with those of `before` and ends
 # with those of `after`.
-loose_sheet <- function(file, data, prefix, kind, before, after, digits) {
+loose_sheet <- function(file, data, prefix, kind, before, after, forms) {
   others <- c(before, after)
   wanted <- paste0(file, " have a column ", prefix, "NAME for each good NAME, and ", paste(names(others), collapse = " and "))
   if (is.data.frame(data)) {
@@ -107,13 +107,13 @@ loose_sheet <- function(file, data, prefix, kind, before, after, digits) {
   header <- names
   header[is_good] <- sprintf("%s%d", prefix, seq_len(sum(is_good)))
   kinds <- ifelse(is_good, kind, unname(others[names]))
-  sheet(file, header, kinds, names, columns, row_labels(labels), digits)
+  sheet(file, header, kinds, names, columns, row_labels(labels), forms)
 }
 
 # ---- technologies and asked outputs
 
 # Returns the sheet of what a firm was seen to do: a frame with w_NAME and x_NAME for each input, y and perhaps p.
-technology_of <- function(data, digits) {
+technology_of <- function(data, forms) {
   if (!is.data.frame(data)) bad_data("a technology is a data frame with w_NAME and x_NAME for each input NAME, y and perhaps p")
   prices <- starting(names(data), "w_")
   used <- starting(names(data), "x_")
@@ -127,12 +127,12 @@ technology_of <- function(data, digits) {
   names <- c(prices, paste0("x_", inputs), "y", "p"[has_price])
   header <- c(sprintf("w_%d", numbers), sprintf("x_%d", numbers), "y", "p"[has_price])
   kinds <- c(rep(c("price", "quantity"), each = length(numbers)), "quantity", "price"[has_price])
-  found <- sheet("technology", header, kinds, names, columns_of(data, names), row_labels(frame_labels(data)), digits)
+  found <- sheet("technology", header, kinds, names, columns_of(data, names), row_labels(frame_labels(data)), forms)
   c(found, list(inputs = inputs, has_price = has_price))
 }
 
 # Returns the sheet of outputs that are asked for at new prices of a technology's inputs.
-outputs_of <- function(technology, new, digits) {
+outputs_of <- function(technology, new, forms) {
   inputs <- technology$inputs
   wanted <- paste0("new has a column w_NAME for each input NAME, which are ", listed(inputs), ", and y, the output that is asked for")
   if (!is.data.frame(new)) bad_data(wanted, "; it is a data frame")
@@ -141,7 +141,7 @@ outputs_of <- function(technology, new, digits) {
   names <- c(paste0("w_", inputs), "y")
   header <- c(sprintf("w_%d", seq_along(inputs)), "y")
   kinds <- c(rep("price", length(inputs)), "quantity")
-  sheet("new", header, kinds, names, columns_of(new, names), row_labels(frame_labels(new)), digits)
+  sheet("new", header, kinds, names, columns_of(new, names), row_labels(frame_labels(new)), forms)
 }
 
 # ---- menus

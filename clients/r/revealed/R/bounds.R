@@ -33,11 +33,11 @@ stacked <- function(frames) {
 
 # ---- demand
 
-rp_demand <- function(p, q = NULL, new, m = NULL, digits = NULL, numbers = "exact", exe = NULL, wide = TRUE) {
+rp_demand <- function(p, q = NULL, new, m = NULL, decimals = digits, numbers = "shortest", exe = NULL, wide = TRUE, digits = NULL) {
   if (missing(new)) bad_data("there are no new prices: give the argument new")
-  digits <- forms_of(digits, numbers)
-  table <- table_of(p, q, digits)
-  found <- asked_of("demand", table, new_prices(table, new, m, wants_m = TRUE, digits), engine_of(exe), wide)
+  forms <- forms_of(decimals, numbers)
+  table <- table_of(p, q, forms)
+  found <- asked_of("demand", table, new_prices(table, new, m, wants_m = TRUE, forms), engine_of(exe), wide)
   reading(found$certificate, {
     stopifnot(length(found$items) == length(found$new$labels))
     found$bounds <- stacked(Map(demand_frame, found$items, found$stated, found$new$labels, MoreArgs = list(table = table, hint = found$hint)))
@@ -102,11 +102,11 @@ counted <- function(frame) {
 
 # ---- welfare
 
-rp_welfare <- function(p, q = NULL, new, digits = NULL, numbers = "exact", exe = NULL, wide = TRUE) {
+rp_welfare <- function(p, q = NULL, new, decimals = digits, numbers = "shortest", exe = NULL, wide = TRUE, digits = NULL) {
   if (missing(new)) bad_data("there are no new prices: give the argument new")
-  digits <- forms_of(digits, numbers)
-  table <- table_of(p, q, digits)
-  found <- asked_of("welfare", table, new_prices(table, new, digits = digits), engine_of(exe), wide)
+  forms <- forms_of(decimals, numbers)
+  table <- table_of(p, q, forms)
+  found <- asked_of("welfare", table, new_prices(table, new, forms = forms), engine_of(exe), wide)
   reading(found$certificate, {
     number <- length(table$labels)
     labels <- rep(found$new$labels, each = number)
@@ -153,11 +153,11 @@ summary.rp_welfare <- function(object, ...) {
 
 # ---- utility
 
-rp_utility <- function(p, q = NULL, bundles, digits = NULL, levels = NULL, numbers = "exact", exe = NULL) {
-  digits <- forms_of(digits, numbers)
+rp_utility <- function(p, q = NULL, bundles, decimals = digits, levels = NULL, numbers = "shortest", exe = NULL, digits = NULL) {
+  forms <- forms_of(decimals, numbers)
   if (missing(bundles)) bad_data("there are no bundles: give the argument bundles")
-  table <- table_of(p, q, digits, levels)
-  asked <- bundles_of(table, bundles, digits)
+  table <- table_of(p, q, forms, levels)
+  asked <- bundles_of(table, bundles, forms)
   files <- list(table.csv = csv_lines(table), bundles.csv = csv_lines(asked))
   text <- ask(c("utility", "table.csv", "bundles.csv"), files, engine_of(exe), list(table, asked))
   reading(text, utility_from(table, asked, report_of(text)))

@@ -39,16 +39,17 @@ refused <- function(fault, file = "table", places = list(), label = NA, name = N
   kinds <- c("budget", "menu", "item", "record", "column")
   places <- named(lapply(kinds, place), kinds)
   told <- c(
+    if (!identical(file, "table")) file,
     if (!is.na(label)) paste("row", quoted(label)),
     if (!is.na(name)) paste("column", quoted(name)),
     if (!is.na(value)) paste("value", value)
   )
   known <- places[!is.na(places)]
+  # The place, what is wrong and what to do, and at the end the program's own words for it.
+  hint_told <- if (!is.na(hint)) hint else if (length(told)) "refused" else "the data are refused"
   message <- paste0(
-    if (!identical(file, "table")) paste0(file, ": "),
-    paste(c(fault, paste(names(known), unlist(known))[length(known) > 0]), collapse = " "),
-    if (length(told)) paste0(" (", paste(told, collapse = ", "), ")"),
-    if (!is.na(hint)) paste0(": ", hint)
+    if (length(told)) paste0(paste(told, collapse = ", "), ": "), hint_told,
+    " [", paste(c(fault, paste(names(known), unlist(known))[length(known) > 0]), collapse = " "), "]"
   )
   problem(
     "rp_refused", message, status = 4L, fault = fault, file = file, record = places$record, column = places$column,

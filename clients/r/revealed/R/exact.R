@@ -211,7 +211,8 @@ Summary.rp_exact <- function(..., na.rm = FALSE) {
   get(.Generic)(big(x, .Generic))
 }
 
-Math.rp_exact <- function(x, ...) bad_data(.Generic, " is not told of exact numbers; as.numeric(x) gives doubles")
+# What R reckons with doubles, as round(x, 2), is reckoned with the nearest ones.
+Math.rp_exact <- function(x, ...) get(.Generic)(named(nearest_double(x), names(x)), ...)
 
 # Returns two columns of a frame: the nearest doubles, or those on one side, and beside them the exact texts.
 beside <- function(name, x, doubles = nearest_double, exact_name = paste0(name, "_exact")) {

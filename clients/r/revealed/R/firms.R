@@ -1,9 +1,9 @@
 # What firms do: cost minimisation, profit maximisation, and bounds on what an output costs.
 
-rp_cost <- function(technology, new, digits = NULL, numbers = "exact", exe = NULL, wide = TRUE) {
-  digits <- forms_of(digits, numbers)
-  own <- technology_of(technology, digits)
-  asked <- outputs_of(own, if (missing(new)) NULL else new, digits)
+rp_cost <- function(technology, new, decimals = digits, numbers = "shortest", exe = NULL, wide = TRUE, digits = NULL) {
+  forms <- forms_of(decimals, numbers)
+  own <- technology_of(technology, forms)
+  asked <- outputs_of(own, if (missing(new)) NULL else new, forms)
   files <- list(technology.csv = csv_lines(own), new.csv = csv_lines(asked))
   given <- ask_wide(c("cost", "technology.csv", "new.csv"), files, engine_of(exe), list(own, asked), wide)
   reading(given$text, cost_from(own, asked, report_of(given$text), if (!is.null(given$stated)) report_of(given$stated), given$hint))

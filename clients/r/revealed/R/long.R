@@ -48,13 +48,12 @@ panel_places <- function(program) {
 
 # Returns a frame as a long file: `cells` has the texts of each column after the ids, `rows` the rows of each household and then each
 # row without one, `ids` its id, which is empty where it has none that is taken.
-long_sheet <- function(data, id, sides, digits) {
+long_sheet <- function(data, id, sides, forms) {
   count <- length(sides$goods)
   levels <- !is.null(sides$levels)
   columns <- c(sides$prices, sides$quantities, if (levels) list(sides$levels))
   kinds <- c(rep(c("price", "quantity"), each = count), if (levels) "")
-  of_kind <- list(price = digits[[1]], quantity = digits[[2]])
-  cells <- lapply(seq_along(columns), function(at) cells_of(columns[[at]], if (nzchar(kinds[at])) of_kind[[kinds[at]]]))
+  of_kind <- list(price = forms[[1]], quantity = forms[[2]])
   ids <- ids_of(data, id)
   taken <- nzchar(ids) & nchar(ids, "bytes") <= limit("long.household_bytes")
   rows <- unname(split(which(taken), match(ids[taken], unique(ids[taken]))))
@@ -62,11 +61,34 @@ long_sheet <- function(data, id, sides, digits) {
   whole <- list(
     file = "table", header = c("household", sprintf("p_%d", seq_len(count)), sprintf("q_%d", seq_len(count)), if (levels) "e"),
     names = c(id[1], price_names(sides), paste0("q_", sides$goods), if (levels) "e"), kinds = c("", kinds), columns = c(list(ids), columns),
-    labels = labels_in(sides$labels), forms = digits
+    labels = labels_in(sides$labels), forms = forms, own_money = sides$own_money
   )
   # What fits is told by all households, which are rounded alike.
-  whole$fit <- if (!is_rounded(digits)) fit_of(whole)
+  whole$fit <- once(function() fit_of(whole))
+  refuse_doubles(whole, data)
+  cells <- lapply(seq_along(columns), function(at) cells_of(columns[[at]], if (nzchar(kinds[at])) of_kind[[kinds[at]]]))
   c(whole, list(cells = cells, ids = vapply(rows, function(at) ids[at[1]], ""), rows = rows, is_named = rep(c(TRUE, FALSE), c(length(rows) - sum(!taken), sum(!taken)))))
+}
+
+# Returns a function that reckons what another does when it is first asked, and keeps it.
+once <- function(reckon) {
+  found <- NULL
+  function() {
+    if (is.null(found)) found <<- reckon()
+    found
+  }
+}
+
+# Refuses the whole panel where a double needs more decimal places or digits than are taken, and nothing rounds it.
+refuse_doubles <- function(long, data) {
+  first <- vapply(seq_along(long$kinds), function(at) {
+    form <- if (long$kinds[at] %in% c("price", "quantity")) long$forms[[if (long$kinds[at] == "price") 1 else 2]]
+    if (is.null(form) || !is.null(form$digits)) return(NA_integer_)
+    match(TRUE, is_beyond(long$columns[[at]], form$shortest))
+  }, 0L)
+  if (all(is.na(first))) return(invisible())
+  column <- which.min(first)
+  stop(panel_fault(long, "TooManyDecimals", list(record = first[column], column = column), data))
 }
 
 # Returns the texts of numbers. What is no plain number is refused, however it is written; so it is not. One that has too many digits
@@ -195,7 +217,11 @@ panel_refusal <- function(long, texts, rows, data) {
   fault <- texts[["fault"]]
   if (!nzchar(fault)) return(NULL)
   if (fault == "Pooled") return(tryCatch(row_labels(long$labels[rows], TRUE, id_advice(long$names[1])), rp_bad_data = identity))
-  place <- lapply(texts[c("record", "column")], function(it) if (nzchar(it)) as.integer(it))
+  panel_fault(long, fault, lapply(texts[c("record", "column")], function(it) if (nzchar(it)) as.integer(it)), data)
+}
+
+# Returns the refusal of a record of the long file, told by the names of the frame.
+panel_fault <- function(long, fault, place, data) {
   column <- place$column
   value <- if (!is.null(column) && !is.null(place$record)) long$columns[[column]][place$record]
   name <- if (is.null(column)) NA else long$names[column]
@@ -217,7 +243,9 @@ panel_hint <- function(fault) {
   found <- list(
     NoId = "a record without a household is none's: give it the name of its household, or leave it out",
     LongId = paste("the name of a household has at most", limit_text("long.household_bytes"), "bytes"),
-    TooManyRecords = paste("a household has at most", limit_text("table.records"), "rows: name more columns that tell households apart")
+    TooManyRecords = paste0(
+      "one household has at most ", limit_text("table.records"), " observations: test parts of its observations apart, such as years"
+    )
   )[[fault]]
   if (is.null(found)) NA else found
 }

@@ -1,4 +1,5 @@
-# Numbers as text, without rounding, on their way to the program.
+# Numbers as text on their way to the program. A double is written as the shortest decimal that gives it back, and the result says so;
+# strictly, as the binary fraction that it is. Nothing is rounded unasked.
 
 plain <- "^[0-9]+(\\.[0-9]+)?$"
 number <- "^([+-]?)([0-9]+\\.?[0-9]*|\\.[0-9]+)([eE][+-]?[0-9]{1,3})?$"
@@ -45,15 +46,49 @@ double_texts <- function(x, digits, shortest) {
   text
 }
 
-# Returns the shortest decimal that gives each double back: 15 digits are enough for one that was read from as few, and 17 for all.
+# Returns the shortest decimal that gives each double back: 15 digits are enough for one that was read from as few, and 17 for all. What
+# R reads is now and then not the nearest double, so a decimal of few places also gives a double back where its quotient is that.
 shortest_texts <- function(x) {
-  text <- sprintf("%.15g", x)
+  text <- character(length(x))
+  few <- abs(x) < 1e9 & is_quotient(x, most_places())
+  text[few] <- sub("\\.?0+$", "", sprintf("%.*f", most_places(), x[few]))
+  long <- which(!few)
+  text[long] <- sprintf("%.15g", x[long])
   for (count in 16:17) {
-    left <- which(as.numeric(text) != x)
+    left <- long[as.numeric(text[long]) != x[long]]
     text[left] <- sprintf("%.*g", count, x[left])
   }
   text
 }
+
+# Returns whether each double is what a whole number over a power of ten is in doubles.
+is_quotient <- function(x, places) round(x * 10^places) / 10^places == x
+
+# Returns which numbers are doubles that need more than 6 decimal places or 7 digits: their shortest decimals, or they themselves.
+is_beyond <- function(x, shortest = TRUE) {
+  found <- logical(length(x))
+  if (!is.double(x) || inherits(x, c("bigz", "bigq", "integer64"))) return(found)
+  x <- as.vector(unclass(x))
+  own <- which(is.finite(x) & x != floor(x))
+  value <- x[own]
+  places <- pmin(most_places(), digits_taken() - nchar(sprintf("%.0f", floor(abs(value)))))
+  found[own] <- places < 0
+  fits <- own[places >= 0]
+  value <- x[fits]
+  places <- as.integer(places[places >= 0])
+  found[fits] <- !(is_quotient(value, places) | as.numeric(sprintf("%.*f", places, value)) == value)
+  found | (!shortest & is_shortened(x))
+}
+
+# Returns which doubles are other numbers than their shortest decimals: a binary fraction of at most six places is whole in 64ths.
+is_shortened <- function(x) {
+  if (!is.double(x) || inherits(x, c("bigz", "bigq", "integer64"))) return(logical(length(x)))
+  parts <- as.vector(unclass(x)) * 2^most_places()
+  is.finite(parts) & parts != floor(parts)
+}
+
+# What a result says where doubles were taken for decimals that are other numbers.
+shortened <- "numbers: shortest decimals of doubles"
 
 # Returns the least number of places after which each double ends, in base 2 as in base 10.
 binary_places <- function(x) {
@@ -162,19 +197,6 @@ places_that_fit <- function(texts) {
   # Rounding may carry the largest into one digit more.
   figures <- nchar(sub("^0+", "", gsub(".", "", largest, fixed = TRUE)))
   as.integer(if (any(figures > digits_taken())) places - 1 else places)
-}
-
-# Returns how many numbers of a column are others once they are rounded to so many places: of doubles, those that do not
-# read back as themselves.
-moved_by <- function(column, places) {
-  if (is.double(column) && !inherits(column, c("bigz", "bigq", "integer64"))) {
-    x <- as.vector(unclass(column))
-    x <- x[is.finite(x)]
-    return(sum(as.numeric(sprintf("%.*f", as.integer(places), x)) != x))
-  }
-  texts <- number_texts(column)
-  texts <- texts[grepl(plain, texts, useBytes = TRUE)]
-  sum(nchar(places_in(texts)) > places)
 }
 
 # Returns what stands behind the point of each text, without the zeros at its end.

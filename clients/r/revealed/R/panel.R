@@ -1,22 +1,22 @@
 # A panel: the row of each household of one long frame, on all processors. The frame becomes long files with a column of ids, households
 # in blocks, and the rows are those of the call of panels (`long.R`).
 
-rp_panel <- function(data, id, ask = c("test", "pump", "power"), digits = NULL, levels = NULL, seed = NULL, draws = 1000, workers = NULL,
-                     numbers = "exact", progress = interactive(), exe = NULL, wide = TRUE) {
+rp_panel <- function(data, id, ask = c("test", "pump", "power"), decimals = digits, levels = NULL, seed = NULL, draws = 1000, workers = NULL,
+                     numbers = "shortest", progress = interactive(), exe = NULL, wide = TRUE, digits = NULL) {
   kind <- chosen(ask, c("test", "pump", "power"), "ask")
   data <- plain_frame(data)
   if (!is_switch(progress)) bad_data("progress is TRUE or FALSE")
   if (!is_switch(wide)) bad_data("wide is TRUE or FALSE")
   workers <- if (is.null(workers)) processors() else as.integer(whole_word(workers, "workers", "1", "4096"))
   sides <- panel_sides(data, id, levels)
-  digits <- forms_of(digits, numbers)
+  forms <- forms_of(decimals, numbers)
   if (kind == "power" && is.null(seed)) bad_data("there is no seed: give the argument seed, a whole number")
   if (kind != "test" && !is.null(sides$levels)) {
     stop(refused("OwnLevels", hint = plain_hint("OwnLevels")))
   }
   if (kind == "pump" && sides$own_money) bad_data("the money pump: ", own_money)
   words <- panel_words(kind, seed, draws, wide)
-  long <- long_sheet(data, id, sides, digits)
+  long <- long_sheet(data, id, sides, forms)
   engine <- panel_engine(exe)
   some <- function(numbers) panel_rows(long, numbers, words, engine)
   # A few households are asked about by one call.
@@ -27,33 +27,42 @@ rp_panel <- function(data, id, ask = c("test", "pump", "power"), digits = NULL, 
   keys <- data[vapply(long$rows, `[`, 1L, 1), id, drop = FALSE]
   keys <- as.data.frame(keys, row.names = seq_along(long$rows))
   texts <- do.call(rbind, c(list(matrix("", 0, length(panel_columns), dimnames = list(NULL, panel_columns))), found))
-  refusals <- lapply(seq_along(long$rows), function(at) panel_refusal(long, texts[at, ], long$rows[[at]], data))
-  stop_where_all_are_refused(refusals, keys)
-  # A fault is told with its place in the frame.
-  for (at in which(nzchar(texts[, "fault"]))) texts[at, c("record", "column")] <- told_place(refusals[[at]])
-  of <- list(
-    keys = keys, texts = texts, refusals = refusals, ask = kind, data = data, id = id, digits = digits, levels = sides$levels, own_money = sides$own_money,
-    places = long$rows, sides = sides
-  )
-  structure(of, class = "rp_panel")
+  # Of intercepts exchanged this test tells nothing: the call says what is so of the prices that it was given.
+  if (sides$own_money) texts[, "quasilinear"] <- ""
+  refusal <- function(at) panel_refusal(long, texts[at, ], long$rows[[at]], data)
+  stop_where_all_are_refused(texts[, "fault"], refusal, keys)
+  own <- list2env(list(
+    keys = keys, texts = with_places(texts, long, data), ask = kind, data = data, id = id, forms = forms, levels = sides$levels,
+    own_money = sides$own_money, places = long$rows, sides = sides, numbers = numbers_line(long)
+  ))
+  # Why households have no verdicts is put into words where it is looked at.
+  delayedAssign("refusals", lapply(seq_along(long$rows), refusal), assign.env = own)
+  structure(panel_frame(own), class = c("rp_panel", "data.frame"), panel = own)
 }
 
-# Returns the place of a fault in the frame, as texts.
-told_place <- function(refusal) {
-  place <- c(refusal$record, refusal$column)
-  if (length(place) < 2) return(c("", ""))
-  ifelse(is.na(place), "", as.character(place))
+# Returns what is known of a panel beside its columns.
+inside <- function(panel) attr(panel, "panel", exact = TRUE)
+
+# Returns the texts of a panel, the places of its faults as those in the frame.
+with_places <- function(texts, long, data) {
+  of_frame <- match(long$names, names(data))
+  for (at in which(nzchar(texts[, "column"]))) {
+    column <- of_frame[as.integer(texts[at, "column"])]
+    texts[at, "column"] <- if (is.na(column)) "" else as.character(column)
+  }
+  texts
 }
 
 # Stops with the refusal of a panel whose households were all refused for one cause.
-stop_where_all_are_refused <- function(refusals, keys) {
-  cause <- vapply(refusals, function(it) if (inherits(it, "rp_refused")) it$fault else if (inherits(it, "rp_bad_data")) "rp_bad_data" else NA_character_, "")
-  if (!length(cause) || anyNA(cause) || length(unique(cause)) > 1) return(invisible())
-  first <- refusals[[1]]
-  who <- if (length(refusals) == 1) "the one household is refused" else paste("all", length(refusals), "households are refused for one cause, the first")
+stop_where_all_are_refused <- function(faults, refusal, keys) {
+  if (!length(faults) || length(unique(faults)) > 1 || !nzchar(faults[[1]])) return(invisible())
+  first <- refusal(1)
+  who <- if (length(faults) == 1) "the one household is refused" else {
+    paste("all", format(length(faults), big.mark = ","), "households are refused for one cause, the first")
+  }
   key <- paste(vapply(keys, function(it) quoted(as.character(it[1])), ""), collapse = ", ")
   first$message <- paste0(who, ", ", key, ": ", conditionMessage(first))
-  first$count <- length(refusals)
+  first$count <- length(faults)
   class(first) <- c("rp_all_refused", class(first))
   stop(first)
 }
@@ -81,13 +90,14 @@ panel_sides <- function(data, id, levels = NULL) {
 
 # Returns the table of the household in a row of a panel.
 table_in <- function(panel, at) {
+  panel <- inside(panel)
   rows <- panel$places[[at]]
   sides <- panel$sides
   part <- list(
     goods = sides$goods, prices = lapply(sides$prices, `[`, rows), quantities = lapply(sides$quantities, `[`, rows),
     labels = sides$labels[rows], levels = if (!is.null(sides$levels)) sides$levels[rows], left_out = sides$left_out, own_money = sides$own_money
   )
-  suppressWarnings(table_of_sides(part, panel$digits, id_advice(panel$id)))
+  suppressWarnings(table_of_sides(part, panel$forms, id_advice(panel$id)))
 }
 
 # Returns how many processes run at once: as many as there are processors, or two where R's checks ask for that. Windows has no
@@ -120,26 +130,78 @@ in_parallel <- function(count, some, workers, progress) {
 # ---- its methods
 
 # Returns which rows have verdicts.
-answered <- function(x) !nzchar(x$texts[, "fault"])
+answered <- function(x) !nzchar(inside(x)$texts[, "fault"])
 
-as.data.frame.rp_panel <- function(x, row.names = NULL, optional = FALSE, ...) {
-  text <- function(name) unname(x$texts[, name])
+# Returns the columns of a panel. Indices are doubles, with which everything of R calculates, and beside each stands the exact number.
+panel_frame <- function(own) {
+  text <- function(name) unname(own$texts[, name])
   truth <- function(name, yes, no) ifelse(text(name) %in% yes, TRUE, ifelse(text(name) %in% no, FALSE, NA))
   whole <- function(name) as.integer(ifelse(nzchar(text(name)), text(name), NA))
   floor <- function(name) as.numeric(ifelse(nzchar(text(name)), text(name), NA))
   share <- function(name) exact(ifelse(nzchar(text(name)), text(name), NA))
-  own <- list(
-    observations = whole("observations"), goods = whole("goods"), garp = truth("garp", "holds", "violated"),
-    efficiency = share("efficiency"), efficiency_floor = floor("efficiency_floor"), attained = truth("attained", "yes", "no"),
-    homothetic = truth("homothetic", "holds", "violated"), quasilinear = if (x$own_money) rep(NA, nrow(x$texts)) else truth("quasilinear", "holds", "violated"),
-    pump = share("pump"), pump_floor = floor("pump_floor"), power = share("power"),
-    fault = text("fault"), record = whole("record"), column = whole("column")
-  )
-  frame_of(c(as.list(x$keys), own))
+  index <- nearest_double(share("efficiency"))
+  frame_of(c(
+    as.list(own$keys),
+    list(observations = whole("observations"), goods = whole("goods"), garp = truth("garp", "holds", "violated"), ccei = index, efficiency = index),
+    list(efficiency_exact = share("efficiency"), efficiency_floor = floor("efficiency_floor"), attained = truth("attained", "yes", "no")),
+    list(homothetic = truth("homothetic", "holds", "violated"), quasilinear = truth("quasilinear", "holds", "violated")),
+    beside("pump", share("pump")), list(pump_floor = floor("pump_floor")), beside("power", share("power")),
+    list(fault = text("fault"), record = whole("record"), column = whole("column"))
+  ))
 }
 
+as.data.frame.rp_panel <- function(x, row.names = NULL, optional = FALSE, ...) {
+  class(x) <- "data.frame"
+  attr(x, "panel") <- NULL
+  x
+}
+
+# A part of a panel is a data frame.
+`[.rp_panel` <- function(x, ...) {
+  x <- as.data.frame(x)
+  x[...]
+}
+
+# Columns come first. What is known beside them is `keys`, `texts` and `refusals`.
+`$.rp_panel` <- function(x, name) {
+  column <- unclass(x)[[name, exact = TRUE]]
+  if (!is.null(column) || !name %in% c("keys", "texts", "refusals", "places", "data", "numbers")) column else inside(x)[[name]]
+}
+
+# Returns what is said of a panel as a whole, in a few lines.
+panel_lines <- function(x) {
+  frame <- as.data.frame(x)
+  own <- frame[answered(x), ]
+  unnamed <- sum(frame$fault %in% c("NoId", "LongId"))
+  count <- function(number) format(number, big.mark = ",")
+  holds <- sum(own$garp)
+  causes <- sort(table(frame$fault[!answered(x)]), decreasing = TRUE)
+  first <- vapply(names(causes), function(it) paste(vapply(inside(x)$keys[match(it, frame$fault), , drop = FALSE], function(key) quoted(as.character(key)), ""), collapse = ", "), "")
+  c(
+    paste0("panel of ", count(nrow(frame) - unnamed), " households by ", listed(inside(x)$id), ", ", count(nrow(own)), " with verdicts"),
+    if (nrow(own)) {
+      paste0(
+        "garp holds ", count(holds), ", violated ", count(nrow(own) - holds), "; efficiency (CCEI) mean ", shown_index(mean(own$ccei), 4),
+        ", minimum ", sprintf("%.6f", min(own$efficiency_floor))
+      )
+    },
+    sprintf("%s without verdicts: %s, the first %s", count(as.vector(causes)), names(causes), first),
+    if (inside(x)$own_money) paste0("quasilinear: ", own_money),
+    inside(x)$numbers
+  )
+}
+
+# So many rows are shown of a panel.
+rows_shown <- 6
+
 print.rp_panel <- function(x, ...) {
-  print(as.data.frame(x), ...)
+  frame <- as.data.frame(x)
+  cat(panel_lines(x), sep = "\n")
+  whole <- c(inside(x)$id, "observations", "garp", "ccei", "homothetic", "quasilinear", if (inside(x)$ask != "test") inside(x)$ask, "fault")
+  has <- vapply(frame[whole], function(it) !all(is.na(it) | it == ""), TRUE)
+  print(utils::head(frame[whole[has]], rows_shown), ...)
+  more <- nrow(frame) - rows_shown
+  if (more > 0) cat(".. and ", format(more, big.mark = ","), " rows more, and more columns: as.data.frame() has all\n", sep = "")
   invisible(x)
 }
 
@@ -147,10 +209,11 @@ summary.rp_panel <- function(object, ...) {
   frame <- as.data.frame(object)
   own <- frame[answered(object), ]
   title <- paste0(nrow(frame), " households, ", nrow(frame) - nrow(own), " of them without an answer")
-  if (object$ask != "test") {
-    return(summary_of(as.data.frame(t(as.matrix(summary(as.double(own[[object$ask]]))))), title))
+  ask <- inside(object)$ask
+  if (ask != "test") {
+    return(summary_of(as.data.frame(t(as.matrix(summary(own[[ask]])))), title))
   }
-  counts <- vapply(own[intersect(tests_of(object$own_money), names(own))], function(it) {
+  counts <- vapply(own[intersect(tests_of(inside(object)$own_money), names(own))], function(it) {
     c(holds = sum(it %in% TRUE), violated = sum(it %in% FALSE), withheld = sum(is.na(it)))
   }, c(holds = 0L, violated = 0L, withheld = 0L))
   summary_of(as.data.frame(t(counts)), title)

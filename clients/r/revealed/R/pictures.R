@@ -103,23 +103,23 @@ plot.rp_panel <- function(x, random = NULL, type = c("histogram", "cumulative"),
   type <- chosen(type, c("histogram", "cumulative"), "type")
   own <- list(index_of(x))
   if (!is.null(random)) {
-    if (!inherits(random, "rp_panel") || random$ask != x$ask) bad_data("random is a panel of the same kind, as rp_random_panel makes it")
+    if (!inherits(random, "rp_panel") || inside(random)$ask != inside(x)$ask) bad_data("random is a panel of the same kind, as rp_random_panel makes it")
     own[[2]] <- index_of(random)
   }
   if (!all(lengths(own))) bad_data("no household has an answer, so there is no picture")
-  if (is.null(xlab)) xlab <- c(test = "critical cost efficiency index (CCEI)", pump = "money pump ratio", power = "power")[[x$ask]]
+  if (is.null(xlab)) xlab <- c(test = "critical cost efficiency index (CCEI)", pump = "money pump ratio", power = "power")[[inside(x)$ask]]
   if (is.null(ylab)) ylab <- if (type == "histogram") "share of each" else "share at or below"
   if (type == "histogram") draw_histogram(own, breaks, xlab, ylab, main, ...) else draw_cumulative(own, xlab, ylab, main, ...)
   words <- paste0(names[seq_along(own)], " (", lengths(own), ")")
-  if (x$ask == "test") words <- paste0(words, ": ", vapply(c(list(x), if (!is.null(random)) list(random)), shares_above, ""))
-  corner <- if (x$ask == "test") "topleft" else "topright"
+  if (inside(x)$ask == "test") words <- paste0(words, ": ", vapply(c(list(x), if (!is.null(random)) list(random)), shares_above, ""))
+  corner <- if (inside(x)$ask == "test") "topleft" else "topright"
   graphics::legend(corner, words, fill = ink[c("own", "other")][seq_along(own)], border = NA, bty = "n", cex = 0.9)
   invisible(x)
 }
 
 # Returns which share of the households that have an answer has an index above 0.90, and above 0.95, by the exact index.
 shares_above <- function(panel) {
-  index <- exact(unname(panel$texts[answered(panel), "efficiency"]))
+  index <- exact(unname(inside(panel)$texts[answered(panel), "efficiency"]))
   share <- function(level) 100 * mean(as.numeric(index > exact(level)))
   sprintf("%.1f%% above 0.90, %.1f%% above 0.95", share("9/10"), share("19/20"))
 }
@@ -128,7 +128,7 @@ shares_above <- function(panel) {
 index_of <- function(x) {
   own <- answered(x)
   if (!any(own)) return(numeric())
-  as.double(exact(unname(x$texts[own, c(test = "efficiency", pump = "pump", power = "power")[[x$ask]]])))
+  as.double(exact(unname(inside(x)$texts[own, c(test = "efficiency", pump = "pump", power = "power")[[inside(x)$ask]]])))
 }
 
 draw_histogram <- function(own, breaks, xlab, ylab, main, ...) {

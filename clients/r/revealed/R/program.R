@@ -39,9 +39,9 @@ rp_program <- function(exe = NULL, must = TRUE) {
   } else {
     places <- usual_places()
     program <- c(on_path(program_name()), Filter(is_program, places))
-    # The library in machine code is the fastest, and the one inside the package wants no process.
+    # The library inside the package is of the package's own version; one on the path may be of any.
     beside <- if (length(program)) library_of(program[1]) else Find(is_there, library_places())
-    found <- Find(is.character, list(beside, library_inside(), if (length(program)) program[1]))
+    found <- Find(is.character, list(library_inside(), beside, if (length(program)) program[1]))
     where <- paste0(
       "there is no program ", program_name(), ": unpack a release of it, and name its program or its library by exe =. Now the argument exe is ",
       "not given, the variables RP_LIBRARY and RP_EXEC are not set, there is none of ", listed(places), ", no ", usual_release(), " in ",

@@ -1,7 +1,7 @@
 # Choices of many people from budgets.
 
-rp_random <- function(budgets, choices, per = NULL, digits = NULL, numbers = "exact", exe = NULL, wide = TRUE) {
-  own <- choices_of(budgets, choices, per, forms_of(digits, numbers))
+rp_random <- function(budgets, choices, per = NULL, decimals = digits, numbers = "shortest", exe = NULL, wide = TRUE, digits = NULL) {
+  own <- choices_of(budgets, choices, per, forms_of(decimals, numbers))
   words <- c("random", "budgets.csv", "choices.csv", "--json", units_of(own$per))
   given <- ask_choices(words, choice_files(own), engine_of(exe), list(own$budgets, own$choices), wide)
   read_random(own, given$text, given$is_wide)
@@ -101,8 +101,8 @@ summary.rp_random <- function(object, ...) {
 
 # ---- patches
 
-rp_patches <- function(budgets, choices, per = NULL, digits = NULL, numbers = "exact", exe = NULL, wide = TRUE) {
-  own <- choices_of(budgets, choices, per, forms_of(digits, numbers))
+rp_patches <- function(budgets, choices, per = NULL, decimals = digits, numbers = "shortest", exe = NULL, wide = TRUE, digits = NULL) {
+  own <- choices_of(budgets, choices, per, forms_of(decimals, numbers))
   words <- c("patches", "budgets.csv", "choices.csv", units_of(own$per))
   text <- ask_choices(words, choice_files(own), engine_of(exe), list(own$budgets, own$choices), wide)$text
   reading(text, patches_from(own, report_of(text)))

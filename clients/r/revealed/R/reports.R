@@ -38,8 +38,8 @@ numbers_of <- function(line, form) {
 
 # ---- two observations that contradict each other
 
-rp_pairs <- function(p, q = NULL, digits = NULL, levels = NULL, numbers = "exact", exe = NULL) {
-  table <- table_of(p, q, forms_of(digits, numbers), levels)
+rp_pairs <- function(p, q = NULL, decimals = digits, levels = NULL, numbers = "shortest", exe = NULL, digits = NULL) {
+  table <- table_of(p, q, forms_of(decimals, numbers), levels)
   text <- ask(c("pairs", "table.csv"), list(table.csv = csv_lines(table)), engine_of(exe), list(table))
   reading(text, {
     said <- line_of(report_of(text), "pair")
@@ -62,8 +62,8 @@ as.data.frame.rp_pairs <- function(x, row.names = NULL, optional = FALSE, ...) {
 
 # ---- money pump
 
-rp_money_pump <- function(p, q = NULL, digits = NULL, numbers = "exact", exe = NULL) {
-  pump_on(table_of(p, q, forms_of(digits, numbers)), engine_of(exe))
+rp_money_pump <- function(p, q = NULL, decimals = digits, numbers = "shortest", exe = NULL, digits = NULL) {
+  pump_on(table_of(p, q, forms_of(decimals, numbers)), engine_of(exe))
 }
 
 rp_pump <- rp_money_pump
@@ -96,9 +96,9 @@ as.data.frame.rp_pump <- function(x, row.names = NULL, optional = FALSE, ...) {
 
 # ---- the power of the test
 
-rp_power <- function(p, q = NULL, seed, draws = 1000, digits = NULL, numbers = "exact", exe = NULL) {
+rp_power <- function(p, q = NULL, seed, draws = 1000, decimals = digits, numbers = "shortest", exe = NULL, digits = NULL) {
   if (missing(seed)) bad_data("there is no seed: give the argument seed, a whole number")
-  power_on(table_of(p, q, forms_of(digits, numbers)), power_words(seed, draws), engine_of(exe))
+  power_on(table_of(p, q, forms_of(decimals, numbers)), power_words(seed, draws), engine_of(exe))
 }
 
 rp_test_power <- rp_power
@@ -158,6 +158,6 @@ print.rp_trial <- function(x, ...) {
 as.data.frame.rp_trial <- function(x, row.names = NULL, optional = FALSE, ...) {
   frame_of(c(
     list(seed = x$words[1], rows = as.integer(x$words[2]), goods = as.integer(x$words[3]), garp = x$garp),
-    beside("ccei", x$efficiency, exact_name = "efficiency"), unclass(x)[c("attained", "homothetic", "quasilinear")]
+    list(ccei = x$ccei), beside("efficiency", x$efficiency), unclass(x)[c("attained", "homothetic", "quasilinear")]
   ))
 }

@@ -5,8 +5,8 @@
 # of these; `names` has the data's own names of them, `columns` what stands there, `texts` the same as the program gets it,
 # and `labels` what the rows are called.
 
-sheet <- function(file, header, kinds, names, columns, labels, digits) {
-  asked <- forms_of(digits)
+sheet <- function(file, header, kinds, names, columns, labels, decimals) {
+  asked <- forms_of(decimals)
   of_kind <- list(price = asked[[1]], money = asked[[1]], quantity = asked[[2]])
   texts <- lapply(seq_along(columns), function(column) {
     tryCatch(number_texts(columns[[column]], if (nzchar(kinds[column])) of_kind[[kinds[column]]]), rp_too_long = function(it) {
@@ -17,25 +17,35 @@ sheet <- function(file, header, kinds, names, columns, labels, digits) {
   list(file = file, header = header, kinds = kinds, names = names, columns = columns, texts = texts, labels = labels, forms = asked)
 }
 
-# Returns how prices and how quantities become texts: rounded to so many `digits`, or not where these are NULL, and doubles as the
-# binary fractions that they are or, where `numbers` is "shortest", as the shortest decimals that give them back.
-forms_of <- function(digits = NULL, numbers = "exact") {
-  if (inherits(digits, "rp_forms")) return(digits)
+# Returns how prices and how quantities become texts: rounded to so many `decimals`, or not where these are NULL, and doubles as the
+# shortest decimals that give them back or, where `numbers` is "exact", as the binary fractions that they are.
+forms_of <- function(decimals = NULL, numbers = "shortest") {
+  if (inherits(decimals, "rp_forms")) return(decimals)
   if (!identical(numbers, "exact") && !identical(numbers, "shortest")) {
     bad_data(
-      "numbers is 'exact', by which a double is the binary fraction that it is, or 'shortest', by which it is the shortest decimal that ",
-      "gives it back"
+      "numbers is 'shortest', by which a double is the shortest decimal that gives it back, or 'exact', by which it is the binary ",
+      "fraction that it is"
     )
   }
-  good <- is.null(digits) || is.numeric(digits) && length(digits) %in% 1:2 && all(is.na(digits) | digits %in% 0:most_places())
-  if (!good) bad_data("digits is a whole number from 0 to ", most_places(), ", or two of these: of prices and of quantities")
-  pair <- if (is.null(digits)) c(NA, NA) else rep(digits, length.out = 2)
+  good <- is.null(decimals) || is.numeric(decimals) && length(decimals) %in% 1:2 && all(is.na(decimals) | decimals %in% 0:most_places())
+  if (!good) bad_data("decimals is a whole number from 0 to ", most_places(), ", or two of these: of prices and of quantities")
+  pair <- if (is.null(decimals)) c(NA, NA) else rep(decimals, length.out = 2)
   structure(lapply(pair, function(it) list(digits = if (!is.na(it)) it, shortest = numbers == "shortest")), class = "rp_forms")
 }
 
 is_rounded <- function(forms) !all(vapply(forms, function(it) is.null(it$digits), TRUE))
 
 are_shortest <- function(forms) isTRUE(forms[[1]]$shortest)
+
+# Returns the line that says how numbers of a sheet were taken, where doubles were taken for decimals that are other numbers.
+numbers_line <- function(sheet) {
+  forms <- list(price = sheet$forms[[1]], money = sheet$forms[[1]], quantity = sheet$forms[[2]])
+  of <- function(at) {
+    form <- forms[[sheet$kinds[at]]]
+    isTRUE(form$shortest) && is.null(form$digits) && any(is_shortened(sheet$columns[[at]]))
+  }
+  if (any(vapply(which(sheet$kinds %in% names(forms)), of, TRUE))) shortened
+}
 
 csv_lines <- function(sheet) {
   # What is no plain number is refused by the program, however it is written; so it is not.
@@ -95,25 +105,40 @@ is_missing <- function(value) identical(number_texts(value), "")
 
 # Returns what to do about a fault, or NA.
 hint_of <- function(sheet, fault, column, value) {
-  shortest <- list(shortest = TRUE)
-  text <- if (is.null(value)) "" else number_texts(value, if (are_shortest(sheet$forms)) shortest)
+  text <- if (is.null(value)) "" else number_texts(value, list(shortest = are_shortest(sheet$forms)))
   if (fault == "BadNumber" && !is.null(value)) {
     if (text == "") return("leave the row out, or fill it in")
     if (grepl("^-[0-9]", text)) return("prices and quantities have no sign")
     return(plain_hint(if (sheet$names[column] == "e") "BadLevel" else fault))
   }
   switch(fault,
-    TooManyDecimals = paste0(
-      "this is ", substr(text, 1, 24), if (nchar(text) > 24) "..", ", and at most ", most_places(),
-      " places are taken; nothing is rounded unasked: ", if (!are_shortest(sheet$forms) && is.double(value) && own_fit(sheet)$shortest) paste0(
-        "numbers = 'shortest' takes each double as the shortest decimal that gives it back, which is the one that it was read from if that ",
-        "had at most 15 digits, here ", number_texts(value, shortest), "; "
-      ), rounding_advice(sheet), "; a text is taken as it is"
-    ),
+    TooManyDecimals = too_many_places_hint(sheet, sheet$kinds[column]),
     TooLarge = too_large_hint(sheet, sheet$kinds[column]),
     TooFine = too_fine_hint(sheet$kinds[column]),
     plain_hint(fault)
   )
+}
+
+# Returns what to do about a number of too many places, in at most four lines.
+too_many_places_hint <- function(sheet, kind) {
+  if (!kind %in% c("price", "quantity")) {
+    return(paste0("it needs more than ", most_places(), " decimal places. Give it as a text of at most ", most_places(), " decimal places."))
+  }
+  fit <- own_fit(sheet)
+  others <- fit$too_fine - 1
+  paste(c(
+    paste0(
+      "it needs more than ", most_places(), " decimal places or ", digits_taken(), " digits",
+      if (others == 1) ", as does 1 other number" else if (others > 1) paste0(", as do ", format(others, big.mark = ",", scientific = FALSE), " other numbers"), "."
+    ),
+    if (kind == "price" && sum(sheet$kinds == "price") == 2 && !isTRUE(sheet$own_money)) {
+      "If prices are 1 over an intercept, give the intercepts in columns i_NAME: nothing is rounded then."
+    },
+    if (!are_shortest(sheet$forms) && fit$shortest) {
+      "numbers = 'shortest', the default, takes each double as the shortest decimal that gives it back, and rounds nothing."
+    },
+    rounding_advice(sheet)
+  ), collapse = "\n")
 }
 
 too_fine_hint <- function(kind) {
@@ -141,37 +166,45 @@ rounding_advice <- function(sheet) {
     large <- c("prices", "quantities")[match(-1L, fit$places)]
     return(paste("the largest of the", large, "has more than", digits_taken(), "digits before its point, so no rounding helps: take a larger unit"))
   }
-  # NA leaves a kind as it is that this file has not.
-  asked <- ifelse(is.na(fit$places), "NA", fit$places)
+  # NA leaves a kind as it is that needs no rounding, or that this file has not.
+  asked <- ifelse(is.na(fit$places) | fit$fine == 0, "NA", fit$places)
   paste0(
-    "digits = c(", asked[1], ", ", asked[2], ") rounds prices and quantities each to the most places that fit ", digits_taken(), " digits, ",
-    if (fit$moved == 0) "which gives every number back as it was written" else paste0(
-      "which moves ", fit$moved, " of ", fit$count, " numbers and can change a verdict: look at the index beside it. ",
-      "Prices that are 1 over an intercept need no rounding: exchange the intercepts, ",
-      "so that p_x is the intercept of y and p_y that of x (docs/USING.md of rp has a table of what rounding does)"
-    )
+    "decimals = c(", asked[1], ", ", asked[2], ") rounds prices and quantities to the most decimal places that fit. ",
+    "Rounded prices can change a verdict."
   )
 }
 
-# What fits is told by all that is asked about together, a panel or this file.
-own_fit <- function(sheet) if (is.null(sheet$fit)) fit_of(sheet) else sheet$fit
+# What fits is told by all that is asked about together, a panel or this file. A panel reckons it once, when it is looked at.
+own_fit <- function(sheet) if (is.function(sheet$fit)) sheet$fit() else fit_of(sheet)
 
-# Returns how many places fit, of prices and of quantities, NA where there are none, and how many numbers these move; and whether all
-# fit with doubles as the shortest decimals that give them back.
+# Returns how many places fit, of prices and of quantities, NA where there are none; how many numbers of each need more than are taken;
+# and whether doubles fit as the shortest decimals that give them back.
 fit_of <- function(sheet) {
   kinds <- c("price", "quantity")
-  texts_as <- function(kind, form) unlist(lapply(sheet$columns[sheet$kinds == kind], number_texts, form = form), use.names = FALSE)
+  columns_of <- function(kind) sheet$columns[sheet$kinds == kind]
   places <- vapply(kinds, function(kind) {
-    own <- texts_as(kind, if (are_shortest(sheet$forms)) list(shortest = TRUE))
+    own <- unlist(lapply(columns_of(kind), function(it) largest_texts(it)), use.names = FALSE)
     if (length(own)) places_that_fit(own) else NA_integer_
   }, 0L, USE.NAMES = FALSE)
-  shortest <- all(vapply(kinds, function(kind) {
-    own <- texts_as(kind, list(shortest = TRUE))
-    !length(own) || max(nchar(places_in(own)), 0L) <= places_that_fit(own)
-  }, TRUE))
-  # Money is rounded as prices are.
-  of <- c(price = places[1], quantity = places[2], money = places[1])
-  own <- which(sheet$kinds %in% names(of))
-  moved <- vapply(own, function(at) moved_by(sheet$columns[[at]], max(of[[sheet$kinds[at]]], 0L, na.rm = TRUE)), 0L)
-  list(places = places, moved = sum(moved), count = sum(lengths(sheet$columns[own])), shortest = shortest)
+  too_fine <- function(kind, shortest) sum(vapply(columns_of(kind), function(it) as.numeric(sum(is_too_fine(it, shortest))), 0))
+  fine <- vapply(kinds, too_fine, 0, shortest = are_shortest(sheet$forms), USE.NAMES = FALSE)
+  shortest <- !any(vapply(kinds, too_fine, 0, shortest = TRUE) > 0)
+  list(places = places, fine = fine, too_fine = sum(fine), shortest = shortest)
+}
+
+# Returns the texts of a column among which its largest number is.
+largest_texts <- function(column) {
+  if (is.double(column) && !inherits(column, c("bigz", "bigq", "integer64"))) {
+    column <- as.vector(unclass(column))
+    column <- column[is.finite(column)]
+    return(if (length(column)) number_texts(max(column), list(shortest = TRUE)))
+  }
+  number_texts(column)
+}
+
+# Returns which numbers of a column need more decimal places than are taken, or, of doubles, more digits.
+is_too_fine <- function(column, shortest) {
+  if (is.double(column) && !inherits(column, c("bigz", "bigq", "integer64"))) return(is_beyond(column, shortest))
+  texts <- number_texts(column)
+  grepl(plain, texts, useBytes = TRUE) & nchar(places_in(texts)) > most_places()
 }

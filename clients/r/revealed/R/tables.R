@@ -1,17 +1,17 @@
 # Tables of prices and purchases.
 
 # Returns the table of prices p and quantities q, or of one frame with p_NAME and q_NAME for each good.
-table_of <- function(p, q = NULL, digits = NULL, levels = NULL) {
+table_of <- function(p, q = NULL, forms = NULL, levels = NULL) {
   if (inherits(p, "rp_table")) return(if (is.null(levels)) p else with_levels(p, levels))
   sides <- if (is.null(q)) sides_of(p) else two_sides(side_of(p, "p_", "prices"), side_of(q, "q_", "quantities"))
   if (!is.null(levels)) {
     if (!is.null(sides$levels)) bad_data("levels are given twice: by the column e and by the argument")
     sides$levels <- levels_for(levels, length(sides$labels))
   }
-  table_of_sides(sides, digits)
+  table_of_sides(sides, forms)
 }
 
-table_of_sides <- function(sides, digits, advice = id_advice(NULL)) {
+table_of_sides <- function(sides, forms, advice = id_advice(NULL)) {
   numbers <- seq_along(sides$goods)
   has_levels <- !is.null(sides$levels)
   labels <- row_labels(sides$labels, apart = TRUE, advice)
@@ -19,7 +19,7 @@ table_of_sides <- function(sides, digits, advice = id_advice(NULL)) {
     "table", c(sprintf("p_%d", numbers), sprintf("q_%d", numbers), "e"[has_levels]),
     c(rep(c("price", "quantity"), each = length(numbers)), ""[has_levels]),
     c(price_names(sides)[numbers], paste0("q_", sides$goods)[numbers], "e"[has_levels]),
-    c(sides$prices, sides$quantities, list(sides$levels)[has_levels]), labels, digits
+    c(sides$prices, sides$quantities, list(sides$levels)[has_levels]), labels, forms
   )
   found$goods <- sides$goods
   found$levels <- if (has_levels) found$texts[[length(found$texts)]]

@@ -2,15 +2,15 @@
 
 tests <- c("garp", "afriat", "homothetic", "quasilinear")
 
-rp_test <- function(p, q = NULL, digits = NULL, levels = NULL, numbers = "exact", exe = NULL, wide = TRUE) {
-  verdict_on(table_of(p, q, forms_of(digits, numbers), levels), engine_of(exe), wide)
+rp_test <- function(p, q = NULL, decimals = digits, levels = NULL, numbers = "shortest", exe = NULL, wide = TRUE, digits = NULL) {
+  verdict_on(table_of(p, q, forms_of(decimals, numbers), levels), engine_of(exe), wide)
 }
 
 rp_analyse <- rp_test
 
 # Returns the certificate itself: the verdicts with their evidence, as JSON.
-rp_certify <- function(p, q = NULL, digits = NULL, levels = NULL, numbers = "exact", exe = NULL, wide = TRUE) {
-  rp_test(p, q, digits, levels, numbers, exe, wide)$certificate
+rp_certify <- function(p, q = NULL, decimals = digits, levels = NULL, numbers = "shortest", exe = NULL, wide = TRUE, digits = NULL) {
+  rp_test(p, q, decimals, levels, numbers, exe, wide)$certificate
 }
 
 verdict_on <- function(table, engine, wide = TRUE) {
@@ -124,7 +124,8 @@ table_lines <- function(table) {
   c(
     paste("observations", length(table$labels), "goods", length(table$goods)),
     if (!is.null(table$levels)) paste(c("levels", table$levels), collapse = " "),
-    if (length(table$left_out)) paste("columns left out:", listed(table$left_out))
+    if (length(table$left_out)) paste("columns left out:", listed(table$left_out)),
+    numbers_line(table)
   )
 }
 
@@ -159,7 +160,7 @@ frame_of <- function(columns) structure(columns, class = "data.frame", row.names
 
 verdict_row <- function(x) {
   frame_of(c(
-    list(garp = x$garp, afriat = x$afriat), beside("ccei", x$efficiency, exact_name = "efficiency"),
+    list(garp = x$garp, afriat = x$afriat, ccei = nearest_double(x$efficiency)), beside("efficiency", x$efficiency),
     list(
       attained = x$attained, homothetic = x$homothetic, quasilinear = x$quasilinear, wide = paste(x$wide, collapse = " "),
       reasons = paste(reason_lines(x$reasons), collapse = "; ")

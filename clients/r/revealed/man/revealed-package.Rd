@@ -9,12 +9,12 @@ gives the answer back by the labels and in the units of the data. The verdicts o
 this package is}.
 }
 \section{Numbers}{
-Integers, texts, numbers of \pkg{gmp} and doubles go to the program exactly as they are. A double is a binary fraction:
-\code{1.25} ends after two decimal places, and \code{3.18} is 3.18000000000000015987.., of which the program does not take so
-many places. So it is refused. There are two ways. \code{numbers = "shortest"} takes each double as the shortest decimal that gives
-it back, 3.18, which is the one that it was read from if that had at most 15 digits. \code{digits} asks for rounding: one number of
-decimal places, or two, of prices and of quantities. It rounds to the nearest, half to even. The refusal says which of these fit: the program takes seven
-digits of the largest price and of the largest quantity, and at most six places. A missing value is refused.
+Integers, texts and numbers of \pkg{gmp} go to the program exactly as they are. A double is a binary fraction: the one that
+\code{read.csv} makes of 23.86 is 23.859999999999999431566. It is taken as the shortest decimal that gives it back, 23.86, where that
+has at most 6 decimal places and 7 digits, and the printed answer says so (\code{numbers: shortest decimals of doubles}). A double that
+needs more is refused, in a panel for all households at once. \code{decimals} asks for rounding, half to even: one number of decimal
+places, or two, of prices and of quantities; the refusal says which fit. \code{numbers = "exact"} takes each double as the binary
+fraction that it is. A missing value is refused.
 
 What comes back is exact too: a text such as \code{4/5} or \code{-884241/1000} of the class \code{\link{rp_exact}}. In the
 data frames of \code{as.data.frame} a column of doubles stands beside each column of exact numbers: the nearest, but \code{ccei} is 1

@@ -10,15 +10,16 @@ Tests whether the inputs of a firm minimise its cost, and with the price of the 
 what an output costs at new prices.
 }
 \usage{
-rp_cost(technology, new, digits = NULL, numbers = "exact", exe = NULL, wide = TRUE)
-rp_cost_minimisation(technology, new, digits = NULL, numbers = "exact", exe = NULL,
-  wide = TRUE)
+rp_cost(technology, new, decimals = digits, numbers = "shortest", exe = NULL,
+  wide = TRUE, digits = NULL)
+rp_cost_minimisation(technology, new, decimals = digits, numbers = "shortest",
+  exe = NULL, wide = TRUE, digits = NULL)
 }
 \arguments{
 \item{technology}{a data frame with \code{w_NAME}, the price, and \code{x_NAME}, how much was used, for each input, \code{y}, the output, and
 perhaps \code{p}, its price.}
 \item{new}{a data frame with \code{w_NAME} for each input and \code{y}, the output that is asked for; at most 16 rows.}
-\item{digits, numbers}{as for \code{\link{rp_test}}: of prices, and of inputs and outputs.}
+\item{decimals, numbers, digits}{as for \code{\link{rp_test}}: of prices, and of inputs and outputs.}
 \item{exe, wide}{as for \code{\link{rp_test}}.}
 }
 \value{

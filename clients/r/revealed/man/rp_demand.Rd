@@ -10,13 +10,13 @@ Gives for each new budget and each good the infimum and the supremum over all bu
 still meets the axiom.
 }
 \usage{
-rp_demand(p, q = NULL, new, m = NULL, digits = NULL, numbers = "exact", exe = NULL,
-  wide = TRUE)
-rp_demand_bounds(p, q = NULL, new, m = NULL, digits = NULL, numbers = "exact", exe = NULL,
-  wide = TRUE)
+rp_demand(p, q = NULL, new, m = NULL, decimals = digits, numbers = "shortest",
+  exe = NULL, wide = TRUE, digits = NULL)
+rp_demand_bounds(p, q = NULL, new, m = NULL, decimals = digits, numbers = "shortest",
+  exe = NULL, wide = TRUE, digits = NULL)
 }
 \arguments{
-\item{p, q, digits, numbers, exe, wide}{as for \code{\link{rp_test}}.}
+\item{p, q, decimals, numbers, exe, wide, digits}{as for \code{\link{rp_test}}.}
 \item{new}{new prices: a matrix or data frame with a column for each good, or one row of numbers, put to the goods by name
 where there are names.}
 \item{m}{what is spent: one number, or one for each row; a data frame of new prices may have the column \code{m} itself. It

@@ -33,7 +33,9 @@ Whole numbers and fractions in lowest terms, each as its text. They are never do
 \code{as.double} gives doubles near the numbers, and \code{as.character} their texts, which \code{gmp::as.bigq} reads.
 Comparisons, \code{max}, \code{min}, \code{order} and \code{sort} are those of the exact numbers. So are sums and products,
 by the package \pkg{gmp}; where that is not there, they stop with an \code{rp_bad_data}. \code{summary}, \code{mean},
-\code{median} and \code{quantile} are of the doubles.
+\code{median}, \code{quantile} and functions such as \code{round} and \code{log} are of the doubles. In data frames the columns
+of indices are doubles, with which every function of R calculates, and the exact numbers stand in columns whose names end in
+\code{_exact}.
 }
 \examples{
 if (!is.null(rp_program(must = FALSE))) {

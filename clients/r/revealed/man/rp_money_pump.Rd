@@ -9,11 +9,12 @@ Gives the greatest share of what was spent that a cycle of purchases gives away 
 back; it is 0 where the axiom holds.
 }
 \usage{
-rp_money_pump(p, q = NULL, digits = NULL, numbers = "exact", exe = NULL)
-rp_pump(p, q = NULL, digits = NULL, numbers = "exact", exe = NULL)
+rp_money_pump(p, q = NULL, decimals = digits, numbers = "shortest", exe = NULL,
+  digits = NULL)
+rp_pump(p, q = NULL, decimals = digits, numbers = "shortest", exe = NULL, digits = NULL)
 }
 \arguments{
-\item{p, q, digits, numbers, exe}{as for \code{\link{rp_test}}. All prices have to be in one unit of money, so a frame of intercepts,
+\item{p, q, decimals, numbers, exe, digits}{as for \code{\link{rp_test}}. All prices have to be in one unit of money, so a frame of intercepts,
 \code{i_NAME} in place of \code{p_NAME}, is refused.}
 }
 \value{

@@ -9,12 +9,13 @@ Gives the first two observations of which one is revealed preferred to the other
 always answers and has no further evidence. None does not say that the axiom holds: a longer cycle may break it.
 }
 \usage{
-rp_pairs(p, q = NULL, digits = NULL, levels = NULL, numbers = "exact", exe = NULL)
-rp_first_contradiction(p, q = NULL, digits = NULL, levels = NULL,
-  numbers = "exact", exe = NULL)
+rp_pairs(p, q = NULL, decimals = digits, levels = NULL, numbers = "shortest",
+  exe = NULL, digits = NULL)
+rp_first_contradiction(p, q = NULL, decimals = digits, levels = NULL,
+  numbers = "shortest", exe = NULL, digits = NULL)
 }
 \arguments{
-\item{p, q, digits, levels, numbers, exe}{as for \code{\link{rp_test}}.}
+\item{p, q, decimals, levels, numbers, exe, digits}{as for \code{\link{rp_test}}.}
 }
 \value{
 An \code{rp_pairs}: \code{contradiction}, \code{TRUE} or \code{FALSE}, and \code{pair}, the labels of the two.

@@ -3,6 +3,8 @@
 \alias{print.rp_panel}
 \alias{summary.rp_panel}
 \alias{as.data.frame.rp_panel}
+\alias{[.rp_panel}
+\alias{$.rp_panel}
 \title{The Verdict on Each Household of a Panel}
 \description{
 Makes the table of the households, subjects or regions of a long data frame, on all processors, by the proved program \code{rp-panel}, which
@@ -11,9 +13,9 @@ its fault, and the others go on; where all have the same, the call stops with it
 ids, without the blanks round them. A row without an id is no household's, and has a row of its own behind them.
 }
 \usage{
-rp_panel(data, id, ask = c("test", "pump", "power"), digits = NULL, levels = NULL,
-  seed = NULL, draws = 1000, workers = NULL, numbers = "exact", progress = interactive(),
-  exe = NULL, wide = TRUE)
+rp_panel(data, id, ask = c("test", "pump", "power"), decimals = digits, levels = NULL,
+  seed = NULL, draws = 1000, workers = NULL, numbers = "shortest",
+  progress = interactive(), exe = NULL, wide = TRUE, digits = NULL)
 }
 \arguments{
 \item{data}{a data frame with columns \code{p_NAME} and \code{q_NAME} for each good, and perhaps \code{obs} and \code{e}. The
@@ -22,19 +24,22 @@ rows of a household need not stand together. Budget lines of two goods may be ke
 pumps are not asked of it, and \code{quasilinear} is \code{NA}.}
 \item{id}{the name of the column, or of the columns, that tell the households apart.}
 \item{ask}{what is asked of each: the verdicts, and beside them the greatest money pump ratio, or the power of the test.}
-\item{digits, levels, numbers, exe, wide}{as for \code{\link{rp_test}}. What fits is told by all households together.}
+\item{decimals, levels, numbers, exe, wide, digits}{as for \code{\link{rp_test}}. What fits is told by all households together.}
 \item{seed, draws}{as for \code{\link{rp_power}}, the same for each household.}
 \item{workers}{how many run at once; else as many as there are processors, two where R's checks ask for that, and one on Windows.}
 \item{progress}{whether a bar is shown, on standard error.}
 }
 \value{
-An \code{rp_panel}: \code{keys}, a data frame of \code{id} in the order in which the households first come, \code{texts}, a matrix of the
-fields that the program writes of each, and \code{refusals}, a list of \code{NULL} or of the fault in words, a condition of the class \code{rp_error}.
-\code{as.data.frame} gives a row for each, with the columns that tables of households have everywhere: \code{observations}, \code{goods};
-\code{garp}, \code{attained}, \code{homothetic} and \code{quasilinear} as logicals; \code{efficiency}, the exact index, and
-\code{efficiency_floor}, the number to calculate with, of six places, rounded down; where they are asked \code{pump} and \code{pump_floor}
-likewise, and \code{power}, the share of behaviours that fail; \code{fault}, empty where there are verdicts, with the \code{record} and the
-\code{column} of the data frame. The certificate of a household is that of \code{\link{rp_test}} on its rows.
+An \code{rp_panel}, which is a data frame: a row for each household in the order in which they first come, with the columns \code{id},
+\code{observations} and \code{goods}; \code{garp}, \code{attained}, \code{homothetic} and \code{quasilinear} as logicals, \code{NA} where a
+verdict is withheld or there is none; the index as a number under two names, \code{ccei} and \code{efficiency}, the nearest double but below 1
+where the index is, \code{efficiency_exact}, the fraction itself (\code{\link{rp_exact}}), and \code{efficiency_floor}, of six places, rounded
+down; where they are asked \code{pump}, \code{pump_exact} and \code{pump_floor} likewise, and \code{power} with \code{power_exact}, the share of
+behaviours that fail; \code{fault}, empty where there are verdicts, with the \code{record} and the \code{column} of the data frame.
+A part of it, as \code{x[x$garp, ]}, is a plain data frame, and \code{as.data.frame(x)} is the whole as one. \code{print} shows what is so of
+the panel, its faults by cause, and the first rows. Beside its columns it has \code{x$keys}, a data frame of \code{id}, \code{x$texts}, a
+matrix of the fields that the program writes of each, and \code{x$refusals}, a list of \code{NULL} or of the fault in words, a condition
+of the class \code{rp_error}. The certificate of a household is that of \code{\link{rp_test}} on its rows.
 }
 \examples{
 if (!is.null(rp_program(must = FALSE))) {

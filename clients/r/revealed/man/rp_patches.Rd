@@ -9,13 +9,13 @@ Tells of choices from a few budgets in which patches they fall: all bundles of a
 one. These are the patches by which \code{\link{rp_random}} tells its types.
 }
 \usage{
-rp_patches(budgets, choices, per = NULL, digits = NULL, numbers = "exact",
-  exe = NULL, wide = TRUE)
-rp_choice_patches(budgets, choices, per = NULL, digits = NULL, numbers = "exact",
-  exe = NULL, wide = TRUE)
+rp_patches(budgets, choices, per = NULL, decimals = digits, numbers = "shortest",
+  exe = NULL, wide = TRUE, digits = NULL)
+rp_choice_patches(budgets, choices, per = NULL, decimals = digits,
+  numbers = "shortest", exe = NULL, wide = TRUE, digits = NULL)
 }
 \arguments{
-\item{budgets, choices, per, digits, numbers, exe, wide}{as for \code{\link{rp_random}}.}
+\item{budgets, choices, per, decimals, numbers, exe, wide, digits}{as for \code{\link{rp_random}}.}
 }
 \value{
 An \code{rp_patches}: \code{patch}, the numbers of the patches from 1, with \code{budget}, the number of the budget of each,

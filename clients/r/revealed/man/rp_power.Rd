@@ -9,12 +9,13 @@ Counts how many of some random behaviours on the budgets of a table violate the 
 and no probability; shares are drawn so that they crowd round equal division more than points drawn uniformly on the budget line.
 }
 \usage{
-rp_power(p, q = NULL, seed, draws = 1000, digits = NULL, numbers = "exact", exe = NULL)
-rp_test_power(p, q = NULL, seed, draws = 1000, digits = NULL,
-  numbers = "exact", exe = NULL)
+rp_power(p, q = NULL, seed, draws = 1000, decimals = digits, numbers = "shortest",
+  exe = NULL, digits = NULL)
+rp_test_power(p, q = NULL, seed, draws = 1000, decimals = digits, numbers = "shortest",
+  exe = NULL, digits = NULL)
 }
 \arguments{
-\item{p, q, digits, numbers, exe}{as for \code{\link{rp_test}}.}
+\item{p, q, decimals, numbers, exe, digits}{as for \code{\link{rp_test}}.}
 \item{seed}{a whole number below 2^64; one above 2^53 as a text.}
 \item{draws}{how many behaviours are drawn, 1 to 1000.}
 }

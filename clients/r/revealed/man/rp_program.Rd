@@ -4,7 +4,8 @@
 \description{
 Finds what answers: the program \code{rp}, or its library \code{librp}, which answers in memory, without a process and without
 files. The argument decides, then the environment variable \code{RP_LIBRARY}, which names a library, then \code{RP_EXEC}, which
-names a program. Else the program is looked for on the path, and then where a release or a package of it is put:
+names a program. Else it is the library inside the package, as in the package of a release, because that is of the package's own
+version. Else the program is looked for on the path, and then where a release or a package of it is put:
 \file{~/.local/bin}, \file{~/bin}, \file{/usr/local/bin}, \file{/usr/bin}, \file{/usr/local/lib/rp}, and a folder such as
 \file{rp-0.17.0-x86_64-linux} in the home folder, its \file{.local} or \file{Downloads}, \file{/opt} or \file{/usr/local} (the last
 version that is there). The library that stands with it is taken in its place: in the folder \file{lib} of a release, or in the

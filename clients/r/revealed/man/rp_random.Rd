@@ -10,10 +10,10 @@ Tells whether a mixture of rational types makes the choices of many people from 
 share of them that one makes.
 }
 \usage{
-rp_random(budgets, choices, per = NULL, digits = NULL, numbers = "exact",
-  exe = NULL, wide = TRUE)
-rp_random_utility(budgets, choices, per = NULL, digits = NULL,
-  numbers = "exact", exe = NULL, wide = TRUE)
+rp_random(budgets, choices, per = NULL, decimals = digits, numbers = "shortest",
+  exe = NULL, wide = TRUE, digits = NULL)
+rp_random_utility(budgets, choices, per = NULL, decimals = digits,
+  numbers = "shortest", exe = NULL, wide = TRUE, digits = NULL)
 
 \method{as.data.frame}{rp_random}(x, row.names = NULL, optional = FALSE,
   what = c("types", "patches"), ...)
@@ -25,7 +25,7 @@ the income.}
 a matrix that begins with the budget and ends with how many times. A budget is its number from 1, or what stands under
 \code{obs} of the budgets where they have that.}
 \item{per}{on how many units of each budget it is asked; else on the least with which each share is whole.}
-\item{digits, numbers, exe}{as for \code{\link{rp_test}}; the income is rounded as prices are.}
+\item{decimals, numbers, exe, digits}{as for \code{\link{rp_test}}; the income is rounded as prices are.}
 \item{wide}{whether the wider edition is asked about choices with more patches or types than the program lists, which that refuses.}
 \item{x}{an answer.}
 \item{what}{a row for each type that makes the choices, or as much of them as rational types can; or one for each patch that these

@@ -11,12 +11,12 @@ Tests the generalized axiom of revealed preference and Afriat's inequalities, gi
 tests whether a homothetic utility, or one that is linear in money, rationalizes the data.
 }
 \usage{
-rp_test(p, q = NULL, digits = NULL, levels = NULL, numbers = "exact", exe = NULL,
-  wide = TRUE)
-rp_analyse(p, q = NULL, digits = NULL, levels = NULL, numbers = "exact", exe = NULL,
-  wide = TRUE)
-rp_certify(p, q = NULL, digits = NULL, levels = NULL, numbers = "exact", exe = NULL,
-  wide = TRUE)
+rp_test(p, q = NULL, decimals = digits, levels = NULL, numbers = "shortest",
+  exe = NULL, wide = TRUE, digits = NULL)
+rp_analyse(p, q = NULL, decimals = digits, levels = NULL, numbers = "shortest",
+  exe = NULL, wide = TRUE, digits = NULL)
+rp_certify(p, q = NULL, decimals = digits, levels = NULL, numbers = "shortest",
+  exe = NULL, wide = TRUE, digits = NULL)
 
 \method{as.data.frame}{rp_test}(x, row.names = NULL, optional = FALSE,
   what = c("verdicts", "observations"), ...)
@@ -31,11 +31,12 @@ stands twice is an error, and so is a column with a name such as \code{household
 table is most likely a panel (\code{\link{rp_panel}}).}
 \item{q}{quantities in the same shape. Where both have column names of the same goods (\code{p_} and \code{q_} in front do
 not count), they are put together by these, and matrices else by place.}
-\item{digits}{to how many decimal places numbers are rounded, one number or two, of prices and of quantities; without it
-nothing is rounded, and a double with more than 6 places is refused.}
-\item{numbers}{which number a double is: \code{"exact"}, the binary fraction that it is, or \code{"shortest"}, the shortest decimal
-that gives it back, as 3.18: the one that it was read from if that had at most 15 digits. With \code{digits} that decimal is
-rounded.}
+\item{decimals, digits}{to how many decimal places numbers are rounded, half to even: one number, or two, of prices and of
+quantities, where \code{NA} leaves a kind as it is. What is rounded is the decimal that \code{numbers} makes of a double. Without
+\code{decimals} nothing is rounded. \code{digits} is its older name.}
+\item{numbers}{which number a double is: \code{"shortest"}, the shortest decimal that gives it back, as 23.86, which is the one that
+it was read from; or \code{"exact"}, the binary fraction that it is, as 23.859999999999999431566. A double that needs more than 6
+decimal places or 7 digits is refused. The printed answer says where doubles were taken for decimals that are other numbers.}
 \item{levels}{the level of each observation in whole thousandths from 1 to 1000, one number or one for each; a data frame may
 have them as its column \code{e}.}
 \item{exe}{the program or its library; else one is looked for as \code{\link{rp_program}} says.}

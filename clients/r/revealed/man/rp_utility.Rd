@@ -9,13 +9,13 @@ Gives the utility of bundles under the Afriat numbers that \code{\link{rp_test}}
 the utility there plus its lambda times what the bundle would have cost beyond what was spent.
 }
 \usage{
-rp_utility(p, q = NULL, bundles, digits = NULL, levels = NULL,
-  numbers = "exact", exe = NULL)
-rp_afriat_utility(p, q = NULL, bundles, digits = NULL, levels = NULL,
-  numbers = "exact", exe = NULL)
+rp_utility(p, q = NULL, bundles, decimals = digits, levels = NULL,
+  numbers = "shortest", exe = NULL, digits = NULL)
+rp_afriat_utility(p, q = NULL, bundles, decimals = digits, levels = NULL,
+  numbers = "shortest", exe = NULL, digits = NULL)
 }
 \arguments{
-\item{p, q, digits, levels, numbers, exe}{as for \code{\link{rp_test}}; bundles are rounded as quantities are.}
+\item{p, q, decimals, levels, numbers, exe, digits}{as for \code{\link{rp_test}}; bundles are rounded as quantities are.}
 \item{bundles}{a matrix or data frame with a column for each good, or one row of numbers, put to the goods by name where there are names;
 at most 16 rows.}
 }

@@ -9,12 +9,13 @@
 Gives for each row of new prices and each observation bounds on what it costs at these prices to be as well off as there.
 }
 \usage{
-rp_welfare(p, q = NULL, new, digits = NULL, numbers = "exact", exe = NULL, wide = TRUE)
-rp_welfare_bounds(p, q = NULL, new, digits = NULL, numbers = "exact", exe = NULL,
-  wide = TRUE)
+rp_welfare(p, q = NULL, new, decimals = digits, numbers = "shortest", exe = NULL,
+  wide = TRUE, digits = NULL)
+rp_welfare_bounds(p, q = NULL, new, decimals = digits, numbers = "shortest",
+  exe = NULL, wide = TRUE, digits = NULL)
 }
 \arguments{
-\item{p, q, digits, numbers, exe, wide}{as for \code{\link{rp_test}}.}
+\item{p, q, decimals, numbers, exe, wide, digits}{as for \code{\link{rp_test}}.}
 \item{new}{new prices, as for \code{\link{rp_demand}}.}
 }
 \value{

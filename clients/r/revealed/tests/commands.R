@@ -130,20 +130,20 @@ caught(rp_menus(transform(menus, menu = 1:3)), "rp_bad_data")
 message_of <- function(call) conditionMessage(caught(call, "rp_refused"))
 inverse <- data.frame(p_x = 1 / c(87.13, 45.5), p_y = 1 / c(33.61, 62.04), q_x = c(43.2, 20.1), q_y = c(16.95, 34.63))
 said <- message_of(rp_test(inverse))
-stopifnot(grepl("digits = c(6, 5)", said, fixed = TRUE), grepl("moves 4 of 8 numbers", said), grepl("exchange the intercepts", said))
-stopifnot(inherits(rp_test(inverse, digits = c(6, 5)), "rp_test"))
-said <- message_of(rp_test(transform(inverse, q_x = c(1234.567891, 1)), digits = 6))
-stopifnot(grepl("TooLarge", said), grepl("9999999", said), grepl("digits = c(6, 3)", said, fixed = TRUE), grepl("another unit", said))
-stopifnot(grepl("take a larger unit", message_of(rp_test(transform(inverse, q_x = c(12345678, 1)), digits = c(6, 0)))))
-stopifnot(grepl("digits = c(6, 4)", message_of(rp_test(transform(inverse, q_x = c(99.999999, 1)))), fixed = TRUE))
+stopifnot(grepl("decimals = c(6, NA)", said, fixed = TRUE), grepl("as do 3 other numbers", said), grepl("columns i_NAME", said))
+stopifnot(inherits(rp_test(inverse, decimals = c(6, NA)), "rp_test"), inherits(rp_test(inverse, digits = c(6, 5)), "rp_test"))
+said <- message_of(rp_test(transform(inverse, q_x = c(1234.567891, 1)), decimals = 6))
+stopifnot(grepl("TooLarge", said), grepl("9999999", said), grepl("decimals = c(6, 3)", said, fixed = TRUE), grepl("another unit", said))
+stopifnot(grepl("take a larger unit", message_of(rp_test(transform(inverse, q_x = c(12345678, 1)), decimals = c(6, 0)))))
+stopifnot(grepl("decimals = c(6, 4)", message_of(rp_test(transform(inverse, q_x = c(99.999999, 1)))), fixed = TRUE))
 said <- message_of(rp_demand(years, new = c(bread = 1 / 3, wine = 2), m = 2))
-stopifnot(grepl("digits = c(6, NA)", said, fixed = TRUE), grepl("moves 1 of 3", said))
-stopifnot(inherits(rp_demand(years, new = c(bread = 1 / 3, wine = 2), m = 2, digits = c(6, NA)), "rp_demand"))
+stopifnot(grepl("decimals = c(6, NA)", said, fixed = TRUE))
+stopifnot(inherits(rp_demand(years, new = c(bread = 1 / 3, wine = 2), m = 2, decimals = c(6, NA)), "rp_demand"))
 said <- message_of(rp_utility(years, bundles = c(bread = 1 / 3, wine = 2)))
-stopifnot(grepl("digits = c(NA, 6)", said, fixed = TRUE))
+stopifnot(grepl("decimals = c(NA, 6)", said, fixed = TRUE))
 panel <- rbind(cbind(id = "a", inverse), cbind(id = "b", transform(inverse, q_x = c(1234.5, 1))))
-stopifnot(grepl("digits = c(6, 3)", conditionMessage(caught(rp_panel(panel, "id", workers = 1), "rp_all_refused")), fixed = TRUE))
-stopifnot(all(as.data.frame(rp_panel(panel, "id", digits = c(6, 3), workers = 1))$fault == ""))
+stopifnot(grepl("decimals = c(6, NA)", conditionMessage(caught(rp_panel(panel, "id", workers = 1), "rp_refused")), fixed = TRUE))
+stopifnot(all(as.data.frame(rp_panel(panel, "id", decimals = c(6, NA), workers = 1))$fault == ""))
 
 # ---- a panel that is taken for one household, and names that are none
 long <- data.frame(household = c("a", "a", "b", "b"), obs = c(1, 2, 1, 2), p_x = 1, q_x = 1)
@@ -186,12 +186,25 @@ for (name in c("q_x", "q_y")) many[[name]] <- sample(1:9, 150, TRUE)
 people <- rp_panel(many, "id", workers = 2)
 frame <- as.data.frame(people)
 frame$age <- 20 + frame$id
-stopifnot(is.logical(frame$garp), is.double(frame$efficiency_floor), identical(frame$efficiency_floor == 1, texts(frame$efficiency) == "1"))
-stopifnot(all(diff(frame$efficiency_floor[order(frame$efficiency)]) >= 0), is.finite(coef(lm(efficiency_floor ~ age, frame))), mean(frame$garp) < 1)
+stopifnot(is.logical(frame$garp), is.double(frame$efficiency_floor), identical(frame$efficiency_floor == 1, texts(frame$efficiency_exact) == "1"))
+# a panel is a data frame, and an index is a number for every function of R
+stopifnot(is.data.frame(people), identical(people$garp, frame$garp), identical(people[["ccei"]], frame$ccei), identical(people[people$garp, ], frame[frame$garp, names(people)]))
+stopifnot(identical(class(people[1:2, ]), "data.frame"), nrow(head(people, 3)) == 3, identical(names(people)[1:6], c("id", "observations", "goods", "garp", "ccei", "efficiency")))
+for (index in c("ccei", "efficiency")) {
+  x <- frame[[index]]
+  half <- x[1:15]
+  stopifnot(identical(class(x), "numeric"), is.finite(coef(lm(x ~ frame$age))), is.finite(t.test(x)$p.value), nlevels(cut(x, 3)) == 3)
+  stopifnot(sum(hist(x, plot = FALSE)$counts) == 30, is.finite(cor(x, frame$age)), is.numeric(round(x, 2)), identical(x == 1, frame$efficiency_exact == 1))
+  stopifnot(is.finite(coef(lm(stats::reformulate("age", index), frame))), is.finite(t.test(half, x)$p.value))
+}
+stopifnot(is.double(as.data.frame(rp_test(P, P))$ccei), identical(as.data.frame(rp_test(P, P))$efficiency, 0.8), identical(round(rp_test(P, P)$efficiency, 1), 0.8))
+shown <- capture.output(print(people))
+stopifnot(length(shown) <= 12, startsWith(shown[1], "panel of 30 households by 'id', 30 with verdicts"), any(grepl("24 rows more", shown)))
+stopifnot(all(diff(frame$efficiency_floor[order(frame$efficiency_exact)]) >= 0), is.finite(coef(lm(efficiency_floor ~ age, frame))), mean(frame$garp) < 1)
 stopifnot(sum(hist(frame$efficiency_floor, plot = FALSE)$counts) == 30, nrow(rbind(frame, frame)) == 60, nrow(merge(frame, frame["id"])) == 30)
 path <- tempfile()
 write.csv(frame, path, row.names = FALSE)
-stopifnot(identical(read.csv(path, colClasses = c(efficiency = "character"))$efficiency, texts(frame$efficiency)))
+stopifnot(identical(read.csv(path, colClasses = c(efficiency_exact = "character"))$efficiency_exact, texts(frame$efficiency_exact)))
 capture.output(summary(frame), str(frame), print(frame))
 
 # ---- panels of the money pump and of power
@@ -201,26 +214,49 @@ one <- as.data.frame(rp_panel(many[many$id <= 3, ], "id", ask = "power", seed = 
 stopifnot(as.double(one$power[2]) == rp_power(many[many$id == 2, -1], seed = 5, draws = 100)$power)
 caught(rp_panel(many, "id", ask = "power"), "rp_bad_data")
 
-# ---- doubles that are no short decimals
-said <- conditionMessage(caught(rp_test(cbind(3.18, 1250, 1), cbind(1, 1, 1)), "rp_refused"))
-stopifnot(grepl("numbers = 'shortest' takes each double as the shortest decimal that gives it back", said), grepl("here 3.18;", said, fixed = TRUE))
-short <- rp_test(cbind(3.18, 1250, 1), cbind(1.1, 1, 1), numbers = "shortest")
-stopifnot(identical(unlist(short$table$texts), c("3.18", "1250", "1", "1.1", "1", "1")))
+# ---- doubles: what read.csv makes of 23.86 is taken, and what needs more is refused
+read <- read.csv(text = "p_a,p_b,q_a,q_b\n23.86,1250,1.1,1\n0.1,2,3,0.000025")
+short <- rp_test(read)
+stopifnot(identical(unlist(short$table$texts), c("23.86", "0.1", "1250", "2", "1.1", "3", "1", "0.000025")))
+shown <- capture.output(print(short))
+stopifnot(sum(shown == "numbers: shortest decimals of doubles") == 1, rp_check(read, short)$accepted)
+stopifnot(!any(grepl("numbers:", capture.output(print(rp_test(cbind(0.5, 1L), cbind(1, 2)))))))
+stopifnot(!any(grepl("numbers:", capture.output(print(rp_test(cbind("0.1", "1"), cbind(1, 2)))))))
+# a decimal of six places that R reads as another double than the nearest is taken as either of the two
+for (x in c(7454596 / 1e6, as.numeric("7.454596"))) stopifnot(identical(revealed:::number_texts(x, list(shortest = TRUE)), "7.454596"))
+stopifnot(identical(revealed:::is_beyond(c(23.86, 0.5, 0.015625, 0.0078125, 1e-6, 1e-7, 12345.67, 12345.678, 0.1 + 0.2, 1 / 3, 1e9, NA)), c(
+  FALSE, FALSE, FALSE, TRUE, FALSE, TRUE, FALSE, TRUE, TRUE, TRUE, FALSE, FALSE
+)))
 stopifnot(identical(revealed:::number_texts(c(2.675, NA, -0.0, 1e22), list(digits = 2, shortest = TRUE)), c("2.68", "", "0", "10000000000000000000000")))
-said <- conditionMessage(caught(rp_test(cbind(0.1 + 0.2, 1), cbind(1, 1)), "rp_refused"))
-stopifnot(!grepl("shortest", said))
-said <- conditionMessage(caught(rp_test(cbind(0.1 + 0.2, 1), cbind(1, 1), numbers = "shortest"), "rp_refused"))
-stopifnot(grepl("this is 0.30000000000000004, and", said, fixed = TRUE), !grepl("shortest", said))
+# at most four lines: value, column and row, and what to do; strictly, 3.18 is refused too
+for (call in list(
+  quote(rp_test(cbind(1 / 3, 1), cbind(1, 2))), quote(rp_test(cbind(0.1 + 0.2, 1), cbind(1, 1))),
+  quote(rp_test(cbind(3.18, 1250), cbind(1, 1), numbers = "exact")), quote(rp_test(cbind(3.18, 1250, 1), cbind(1 / 3, 1, 1), numbers = "exact"))
+)) {
+  said <- conditionMessage(caught(eval(call), "rp_refused"))
+  stopifnot(lengths(strsplit(said, "\n")) <= 4, startsWith(said, "row 1, column 'p_1', value "), endsWith(said, "[TooManyDecimals record 1 column 1]"))
+  stopifnot(grepl("decimals = c(", said, fixed = TRUE))
+}
+stopifnot(grepl("numbers = 'shortest', the default", conditionMessage(caught(rp_test(cbind(3.18, 1), cbind(1, 1), numbers = "exact"), "rp_refused"))))
 for (numbers in list("short", 6, NULL, c("exact", "shortest"))) {
   stopifnot(grepl("gives it back", conditionMessage(caught(rp_test(P, P, numbers = numbers), "rp_bad_data"))))
 }
-# a panel that is refused for one cause stops with it, and says what fits all
+# doubles that need more refuse the whole panel at once
 floats <- data.frame(home = c("u", "u", "v"), p_a = c(3.18, 2.5, 1.1), p_b = c(1, 1, 12500.5), q_a = 1, q_b = 2:4)
-every <- caught(rp_panel(floats, "home", workers = 1), "rp_all_refused")
-stopifnot(inherits(every, "rp_refused"), every$fault == "TooManyDecimals", every$count == 2, startsWith(conditionMessage(every), "all 2 households are refused for one cause, the first, 'u': TooManyDecimals"))
-stopifnot(grepl("digits = c(2, 6)", conditionMessage(every), fixed = TRUE), grepl("numbers = 'shortest'", conditionMessage(every), fixed = TRUE))
-stopifnot(as.data.frame(rp_panel(floats, "home", workers = 1, numbers = "shortest"))$fault == "")
-two <- as.data.frame(rp_panel(transform(floats, p_a = c(3.18, 2.5, 0)), "home", workers = 1))
+found <- rp_panel(floats, "home", workers = 1)
+stopifnot(as.data.frame(found)$fault == "", tail(capture.output(print(found)), 1) == "numbers: shortest decimals of doubles")
+every <- caught(rp_panel(transform(floats, q_a = c(1, 1 / 3, 0.1 + 0.2)), "home", workers = 1), "rp_refused")
+stopifnot(every$fault == "TooManyDecimals", every$record == 2, every$column == 4, every$name == "q_a", grepl("as does 1 other number", conditionMessage(every)))
+every <- caught(rp_panel(floats, "home", workers = 1, numbers = "exact"), "rp_refused")
+stopifnot(every$record == 1, every$column == 2, grepl("decimals = c(2, NA)", conditionMessage(every), fixed = TRUE), grepl("numbers = 'shortest'", conditionMessage(every), fixed = TRUE))
+many <- data.frame(home = rep(1:5000, each = 20), p_a = 1 / (7 + seq_len(1e5) %% 83), p_b = 1, q_a = 1, q_b = 1 / (7 + seq_len(1e5) %% 79))
+stopifnot(system.time(caught(rp_panel(many, "home"), "rp_refused"))[["elapsed"]] < 20)
+# a panel that is refused for one cause stops with it, and says what fits all
+texts <- transform(floats, p_a = c("3.1800001", "2.5", "1.0000001"))
+every <- caught(rp_panel(texts, "home", workers = 1), "rp_all_refused")
+stopifnot(inherits(every, "rp_refused"), every$fault == "TooManyDecimals", every$count == 2)
+stopifnot(startsWith(conditionMessage(every), "all 2 households are refused for one cause, the first, 'u': row 1, column 'p_a', value '3.1800001': "))
+two <- as.data.frame(rp_panel(transform(texts, p_a = c("3.1800001", 2.5, 0)), "home", workers = 1))
 stopifnot(identical(two$fault, c("TooManyDecimals", "ZeroPrice")), identical(two$record, c(1L, 3L)), two$column == 2)
 if (requireNamespace("gmp", quietly = TRUE)) {
   long <- gmp::as.bigz(10)^5000

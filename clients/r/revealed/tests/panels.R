@@ -38,6 +38,19 @@ many <- do.call(rbind, lapply(1:250, function(at) transform(frame(c("A", "A", "B
 some <- lapply(1:2, function(workers) rp_panel(many, "household", workers = workers)$texts)
 stopifnot(identical(some[[1]], some[[2]]), nrow(some[[1]]) == 500)
 
+# a panel is shown short, with its faults by cause; a household of too many rows is not told to name more columns
+mixed <- frame(rep(paste0("h", 1:9), each = 2))
+mixed$q_a <- c(1, 2, "x", 2, "y", 2, rep(1:2, 6))
+found <- rp_panel(mixed, "household", workers = 1)
+shown <- capture.output(print(found))
+stopifnot(length(shown) <= 13, any(shown == "2 without verdicts: BadNumber, the first 'h2'"), grepl("row 3, column 'q_a', value 'x'", conditionMessage(found$refusals[[2]])))
+said <- conditionMessage(rp_panel(long, "household", workers = 1)$refusals[[1]])
+stopifnot(grepl("at most 512 observations", said), !grepl("columns", said))
+# of budget lines by their intercepts no quasilinear verdict is told anywhere
+lines <- data.frame(s = c(1, 1), i_x = c("87.13", "45.50"), i_y = c("33.61", "62.04"), q_x = c("43.2", "20.1"), q_y = c("16.95", "34.63"))
+found <- rp_panel(lines, "s", workers = 1)
+stopifnot(is.na(found$quasilinear), found$texts[, "quasilinear"] == "", !any(grepl("violated|holds", grep("quasilinear", capture.output(print(found)), value = TRUE))))
+
 # what is no table of these households is no answer
 if (.Platform$OS.type == "unix") {
   fake <- function(lines) {

@@ -66,7 +66,7 @@ caught(rp_test(one, one, exe = folder), "rp_no_program")
 Sys.setenv(RP_EXEC = file.path(folder, "not there"))
 caught(rp_test(one, one), "rp_no_program")
 Sys.unsetenv("RP_EXEC")
-# Where the library is inside the package, it comes before a program that no library stands beside.
+# Where the library is inside the package, it comes before everything that is found and not named.
 or_own <- function(program) c(revealed:::library_inside(), program)[1]
 stopifnot(identical(rp_program(), or_own(bad)))
 Sys.setenv(PATH = file.path(folder, "nothing"))
