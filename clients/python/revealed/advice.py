@@ -13,7 +13,7 @@ LARGEST = LIMITS["table.largest"]
 LARGEST_MONEY = LIMITS["table.largest_expenditure"]
 # What is scaled by one power of ten, by the name that a column has in a sheet.
 PRICES, QUANTITIES, LEVELS, MONEY, WHOLE = "prices", "quantities", "levels", "money", "whole numbers"
-MEANT = "docs/USING.md, 'A table that keeps its verdict'"
+MEANT = "docs/howto/data.md, 'Decimal places'"
 LEVEL_HINT = f"levels are whole thousandths of what was spent, from 1 to {LIMITS['table.level_scale']}: 0.8 of it is 800"
 NAME_HINT = f"a name has 1 to {LIMITS['table.name_bytes']} bytes, none of them a control character, and stands once"
 FEWER = "ask about fewer budgets"

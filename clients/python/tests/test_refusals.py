@@ -53,7 +53,7 @@ class Rounding(unittest.TestCase):
         fault, hint = self.hint([[1 / 87.13, 1 / 33.61], [1 / 45.5, 1 / 62.04]], [[43.2, 16.95], [20.1, 34.63]])
         self.assertEqual(fault, "TooManyDecimals")
         self.assertIn("places=(6, 5) rounds to the most places that fit", hint)
-        self.assertIn("b of the first good and a of the second (docs/USING.md", hint)
+        self.assertIn("b of the first good and a of the second (docs/howto/data.md", hint)
         for p, q, argument in [
             ([[3.18, 1250]], [[1, 1]], "places=(3, None)"),
             ([[1, 2]], [[1 / 3, 123456]], "places=(None, 1)"),

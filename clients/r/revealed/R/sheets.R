@@ -148,7 +148,7 @@ rounding_advice <- function(sheet) {
     if (fit$moved == 0) "which gives every number back as it was written" else paste0(
       "which moves ", fit$moved, " of ", fit$count, " numbers and can change a verdict: look at the index beside it. ",
       "Prices that are 1 over an intercept need no rounding: exchange the intercepts, ",
-      "so that p_x is the intercept of y and p_y that of x (docs/USING.md of rp has a table of what rounding does)"
+      "so that p_x is the intercept of y and p_y that of x (docs/howto/data.md of rp has a table of what rounding does)"
     )
   )
 }
