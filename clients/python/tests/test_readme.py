@@ -10,6 +10,7 @@ import unittest
 import revealed
 
 HERE = pathlib.Path(__file__).resolve().parents[1]
+TOP = HERE.parents[1]
 
 try:
     import matplotlib
@@ -21,7 +22,9 @@ except ImportError:
 class Lines(unittest.TestCase):
     def runs(self, text, name):
         # without the fences, which would count as output
-        test = doctest.DocTestParser().get_doctest(re.sub("(?m)^```.*$", "", text), {}, name, name, 0)
+        test = doctest.DocTestParser().get_doctest(
+            re.sub("(?m)^```.*$", "", text), {}, name, name, 0
+        )
         told = []
         doctest.DocTestRunner(verbose=False).run(test, out=told.append)
         self.assertTrue(test.examples)
@@ -34,14 +37,24 @@ class Lines(unittest.TestCase):
         self.runs(revealed.__doc__, "revealed")
         self.runs(revealed.plain.__doc__, "revealed.plain")
 
-    @unittest.skipUnless((HERE / "../../docs/howto/referee.md").exists(), "the repository is not here")
-    def test_referees(self):
+    @unittest.skipUnless(
+        (TOP / "docs" / "howto").is_dir(), "the repository is not here"
+    )
+    def test_documents(self):
+        """README and the documents of the repository, in a folder with its examples; what they write is thrown away."""
         before = os.getcwd()
-        os.chdir(HERE / "../..")
-        try:
-            self.runs((HERE / "../../docs/howto/referee.md").read_text(encoding="utf-8"), "referee.md")
-        finally:
-            os.chdir(before)
+        with tempfile.TemporaryDirectory() as folder:
+            for name in ("examples", "docs"):
+                os.symlink(TOP / name, f"{folder}/{name}")
+            os.chdir(folder)
+            try:
+                for path in [TOP / "README.md", *sorted((TOP / "docs").rglob("*.md"))]:
+                    text = path.read_text(encoding="utf-8")
+                    if ">>> " in text and (pandas is not None or "pandas" not in text):
+                        with self.subTest(path.name):
+                            self.runs(text, path.name)
+            finally:
+                os.chdir(before)
 
     @unittest.skipIf(pandas is None, "pandas or matplotlib is not there")
     def test_experiment(self):
@@ -50,9 +63,14 @@ class Lines(unittest.TestCase):
             os.symlink(HERE / "data", f"{folder}/data")
             os.chdir(folder)
             try:
-                self.runs((HERE / "EXPERIMENT.md").read_text(encoding="utf-8"), "EXPERIMENT.md")
+                self.runs(
+                    (HERE / "EXPERIMENT.md").read_text(encoding="utf-8"),
+                    "EXPERIMENT.md",
+                )
                 for name in ("index.png", "subject.png"):
-                    self.assertTrue(pathlib.Path(name).read_bytes().startswith(b"\x89PNG"))
+                    self.assertTrue(
+                        pathlib.Path(name).read_bytes().startswith(b"\x89PNG")
+                    )
             finally:
                 os.chdir(before)
 
