@@ -22,9 +22,7 @@ except ImportError:
 class Lines(unittest.TestCase):
     def runs(self, text, name):
         # without the fences, which would count as output
-        test = doctest.DocTestParser().get_doctest(
-            re.sub("(?m)^```.*$", "", text), {}, name, name, 0
-        )
+        test = doctest.DocTestParser().get_doctest(re.sub("(?m)^```.*$", "", text), {}, name, name, 0)
         told = []
         doctest.DocTestRunner(verbose=False).run(test, out=told.append)
         self.assertTrue(test.examples)
@@ -37,9 +35,7 @@ class Lines(unittest.TestCase):
         self.runs(revealed.__doc__, "revealed")
         self.runs(revealed.plain.__doc__, "revealed.plain")
 
-    @unittest.skipUnless(
-        (TOP / "docs" / "howto").is_dir(), "the repository is not here"
-    )
+    @unittest.skipUnless((TOP / "docs" / "howto").is_dir(), "the repository is not here")
     def test_documents(self):
         """README and the documents of the repository, in a folder with its examples; what they write is thrown away."""
         before = os.getcwd()
@@ -68,9 +64,7 @@ class Lines(unittest.TestCase):
                     "EXPERIMENT.md",
                 )
                 for name in ("index.png", "subject.png"):
-                    self.assertTrue(
-                        pathlib.Path(name).read_bytes().startswith(b"\x89PNG")
-                    )
+                    self.assertTrue(pathlib.Path(name).read_bytes().startswith(b"\x89PNG"))
             finally:
                 os.chdir(before)
 
