@@ -36,6 +36,11 @@ fields that the program writes of each, and \code{refusals}, a list of \code{NUL
 likewise, and \code{power}, the share of behaviours that fail; \code{fault}, empty where there are verdicts, with the \code{record} and the
 \code{column} of the data frame. The certificate of a household is that of \code{\link{rp_test}} on its rows.
 }
+\references{
+Afriat, S. N. (1973). On a System of Inequalities in Demand Analysis: An Extension of the Classical Method. \emph{International Economic Review} 14, 460--472.
+
+Varian, H. R. (1982). The Nonparametric Approach to Demand Analysis. \emph{Econometrica} 50, 945--973.
+}
 \examples{
 if (!is.null(rp_program(must = FALSE))) {
   long <- data.frame(
