@@ -3,7 +3,7 @@
  *
  * `rp_answer` answers as the command `rp` does, to the same words over files of the same bytes, `rp_answer_wide` as
  * `rp-wide`, and `rp_panel` as `rp-panel`. No call reads a file, prints, starts a thread or keeps anything between
- * calls. What each command takes and writes is told in docs/reference/files.md; `rp` below is the command's name in its own
+ * calls. docs/reference says what each command takes and writes; `rp` below is the command's name in its own
  * texts.
  *
  *   cc program.c -lrp                 with the shared library
@@ -85,7 +85,7 @@ int32_t rp_answer_wide(
  * Answers the words of `rp-panel`: a row of verdicts for each household of a long file, or its bounds at new prices.
  *
  * The words are LONG [--id NAME] [--keep NAME].. [--pump] [--power DRAWS SEED] [--wide], or with bounds
- * LONG [--id NAME] [--keep NAME].. (--demand | --welfare) NEW [--wide], as docs/reference/files.md tells, and the files are LONG
+ * LONG [--id NAME] [--keep NAME].. (--demand | --welfare) NEW [--wide], as docs/reference/rp-panel.md describes, and the files are LONG
  * and NEW, where it is named, under these names. The output is the table as comma-separated values. With RP_DONE there
  * may be told lines too, one for each column of the long file that is left out. Arguments, ownership, threads and
  * statuses are those of `rp_answer`; RP_REJECTED never comes.

@@ -16,7 +16,7 @@ function verdict = rp_random(p, w, budget, q, n, varargin)
 %   wide          whether rp itself refuses these choices, and its wider edition takes them
 %   text          the report itself, whose numbers are exact
 %
-% Shares are taken as exact: what a sample leaves to chance is not looked at. Patches are told in docs/reference/files.md.
+% Shares are taken as exact: what a sample leaves to chance is not looked at. Patches are defined in docs/reference/rp-random.md.
   options = rp_options(varargin, struct('Per', [], 'Decimals', [], 'Numbers', 'shortest', 'Names', {{}}, 'Wide', true));
   goods = size(p, 2);
   names = options.Names;

@@ -92,7 +92,7 @@ def build_sdist(sdist_directory, config_settings=None, extra=()):
     """Writes the sdist into a folder, and returns its name; these files stand in its folder of the library as one C file."""
     top = f"{NAME}-{version()}"
     files = {f"{top}/PKG-INFO": metadata()}
-    for name in ("README.md", "EXPERIMENT.md", "compiled.py", "pyproject.toml", "wheels.py"):
+    for name in ("README.md", "compiled.py", "pyproject.toml", "wheels.py"):
         files[f"{top}/{name}"] = bytes_of(os.path.join(HERE, name))
     files.update({f"{top}/{name}": data for name, data in own_license()})
     files.update({f"{top}/onefile/{os.path.basename(it)}": bytes_of(it) for it in extra})

@@ -3,7 +3,7 @@ program define rptest, rclass sortpreserve
     version 13
     syntax [if] [in], Prices(varlist numeric) Quantities(varlist numeric) [BY(varlist) LEVels(varname numeric) OBS(varname) DIGITS(numlist integer max=2 >=0 <=6) PUMP POWer(integer 0) SEED(integer 1) NEWprices(numlist >0) MONEY(numlist >0 max=1) EXE(string) NOWIDE GENerate(name) SAVing(string)]
     if "`c(os)'" == "Windows" {
-        display as error "rptest starts the program by a script for sh, which Windows has not: run rp.exe by shell, as docs/USING.md tells"
+        display as error "rptest starts the program by a script for sh, which Windows has not: run rp.exe by shell, as clients/README.md describes"
         exit 198
     }
     marksample touse, novarlist

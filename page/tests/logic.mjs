@@ -118,11 +118,11 @@ test("with levels no sentence on the axiom speaks of all that was spent, and the
   for (const [item, verdict] of [["garp", "holds"], ["garp", "violated"], ["afriat", "model"], ["afriat", "none"]]) {
     const [plain, held] = pair(item, verdict);
     assert.notEqual(plain.says, held.says);
-    assert.match(held.says, /level|part which counts/);
+    assert.match(held.says, /level|expenditure that counts/);
     assert.doesNotMatch(plain.says, /level/);
   }
   const own = sentence("homothetic", "holds", { levels: true }).says;
-  assert.match(own, /All that was spent counts here, and not the levels/);
+  assert.match(own, /This result does not use the efficiency levels/);
 });
 
 test("an index of 1 is told apart by whether it is attained", () => {
@@ -131,21 +131,27 @@ test("an index of 1 is told apart by whether it is attained", () => {
     ["1, attained", "1, not attained", "below 1, attained", "below 1, not attained"],
   );
   const of = (bound) => sentence("efficiency", "index", { levels: false, bound }, { index: "4/5", about: " (0.8)" });
-  assert.equal(of("1, attained").head, "1: nothing has to be left out of account");
-  assert.match(of("1, not attained").says, /where all of it counts, no consumer can/);
+  assert.equal(of("1, attained").head, "1: all of the expenditure counts");
+  assert.match(of("1, not attained").says, /If all of it counts, no consumer/);
   assert.equal(of("below 1, attained").head, "4/5 (0.8)");
-  assert.match(of("below 1, not attained").says, /any part below 4\/5 .* where 4\/5 or more counts, no consumer can/);
+  assert.match(of("below 1, not attained").says, /any part below 4\/5 .* If 4\/5 or more counts, no consumer/);
 });
 
 test("of shares in units the sentence speaks of the rounded ones", () => {
   const exact = "budgets 2 patches 4 types 3 total 4\nrandom mixture over 4\npart 1 3 weight 4\n";
   const units = "budgets 2 patches 4 types 3 total 10\napportioned per 10\nrandom mixture over 10\npart 1 3 weight " +
     "10\n";
-  assert.match(populationSays(exact, "random").head, /^Yes: a population can have made these choices$/);
-  assert.equal(populationSays(units, "random").head, "Yes, of the rounded shares");
-  assert.match(populationSays(units, "random").says, /shared out among 10 units .* rounded/);
-  assert.match(populationSays(units, "random").says, /before rounding it says nothing/);
-  for (const it of [exact, units]) assert.match(populationSays(it, "random").says, /a sample/);
+  assert.match(populationSays(exact, "random").head, /^Yes: a population could have made these choices$/);
+  assert.equal(populationSays(units, "random").head, "Yes, for the rounded shares");
+  assert.match(populationSays(units, "random").says, /the rounded shares\. Shares are rounded to 10 units/);
+  assert.match(populationSays(units, "random").says, /says nothing about the shares before rounding/);
+  for (const it of [exact, units]) assert.match(populationSays(it, "random").says, /sampling error is not modelled/);
+  const violated = "budgets 2 patches 4 types 3 total 10\napportioned per 10\nrandom violated share 3/4\n" +
+    "weights 1 0 1 0 over 1\npart 1 4 weight 1\n";
+  assert.match(
+    populationSays(violated, "random").says,
+    /^No population .* made the rounded shares\. Shares are rounded to 10 units on each budget\. A population/,
+  );
 });
 
 test("what was asked of one input shows nothing once another run has begun", () => {
@@ -517,20 +523,20 @@ test("bounds of a household in units with a decimal beside each, and none where 
 test("what is said of populations and firms", () => {
   const violated = "budgets 2 patches 4 types 3 total 4\nrandom violated share 3/4\nweights 1 0 1 0 over 1\n";
   const random = populationSays(violated, "random");
-  assert.equal(random.head, "No: no population makes these choices");
-  assert.match(random.says, /They make at most 3\/4 of them \(0\.75\)\./);
+  assert.equal(random.head, "No: no population could have made these choices");
+  assert.match(random.says, /A population of this kind makes at most 3\/4 of them \(0\.75\)\./);
   assert.match(populationSays("menus mixture over 1\n", "menus").says, /strict order/);
   const both = firmSays("technology records 2 inputs 2 places 0 0\ncost holds\nprofit violated\npair 1 2\n");
   assert.deepEqual(
     both.map((it) => it.head),
-    ["Yes: the firm can have minimised cost", "No: it did not maximise profit"],
+    ["Yes: the firm could have minimized cost", "No: the firm did not maximize profit"],
   );
   assert.equal(firmSays("cost violated\npair 1 2\n").length, 1);
   const bounds = "bounds prices 10 10 output 1 lower 35/2 upper 40 at 2\nlower x 1 1 y none over 1\n" +
     "bounds prices 10 10 output 9 lower 5 upper none\n";
   const said = costSays(bounds, 1);
   assert.match(said[0], /costs at least 7\/4 \(1\.75\) .* observation 2 .* cost 4 at the new prices/);
-  assert.match(said[1], /at least 1\/2 \(0\.5\) .* No observation made so much\./);
+  assert.match(said[1], /at least 1\/2 \(0\.5\) .* No observation made as much\./);
 });
 
 test("welfare, demand, utility and the money pump in words, in the units of the file", () => {
@@ -542,13 +548,13 @@ test("welfare, demand, utility and the money pump in words, in the units of the 
     { record: 1, observation: "2", lower: null, upper: "3", at: "2", wide: [] },
   ]);
   const [first, second] = found.map(welfareSays);
-  assert.match(first, /^Whoever .* needs at least 25\/6 \(about 4\.1666\) .* as at observation 1\./);
+  assert.match(first, /^Every consumer .* needs at least 25\/6 \(about 4\.1666\) .* as at observation 1\./);
   assert.match(first, / the bundle of observation 2 .* costs 9\/2 \(4\.5\)/);
   assert.match(second, /^A number got longer .* costs 3 at the new prices/);
   const bounds = demandBounds("good 1 lower 5 upper withheld 3\n", ["tea"], 1);
   assert.deepEqual(bounds, [{ name: "tea", lower: "1/2", upper: null, wide: [] }]);
-  assert.match(demandSays(bounds[0])[0], /^tea: Nobody .* less of tea there than 1\/2 \(0\.5\)/);
-  assert.match(demandSays(bounds[0])[1], /no verdict/);
+  assert.match(demandSays(bounds[0])[0], /^tea: No consumer .* less of tea on this budget than 1\/2 \(0\.5\)/);
+  assert.match(demandSays(bounds[0])[1], /not a verdict/);
   assert.match(utilitySays("at 1 value -12\n", false)[0], /^Bundle 1: -12\. /);
   const pumped = "observations 2 goods 2 places 0 0\npump 1/5\ncycle 1 2 1\nvalues 0 0\n";
   assert.equal(pumpSays(pumped).head, "1/5 (0.2)");
@@ -648,7 +654,7 @@ test("the types and the patches of choices from budgets", () => {
     "budgets 2 patches 4 types unlisted total 4\nrandom violated share 3/4\nweights 1 0 1 0 over 1\n" +
     "part 1 4 weight 1\npart 2 3 weight 2\n";
   assert.deepEqual(typesIn(output), [{ patches: [1, 4], share: "1/4" }, { patches: [2, 3], share: "1/2" }]);
-  assert.equal(populationSays(output, "random").head, "No: no population makes these choices");
+  assert.equal(populationSays(output, "random").head, "No: no population could have made these choices");
   const mixture = "budgets 1 patches 2 types 2 total 10\napportioned per 10\nrandom mixture over 2\n" +
     "part 1 weight 5\npart 2 weight 15\n";
   assert.deepEqual(typesIn(mixture).map((it) => it.share), ["1/4", "3/4"]);

@@ -12,7 +12,7 @@ APACHE = "cfc7749b96f63bd31c3c42b5c471bf756814053e847c10f3eb003417bc523d30"
 RELEASE = r"rp[-_](\d[\d.]*\d)[-_](?:x86_64|amd64|web)"
 VERSIONS = {
     "README.md": RELEASE,
-    "docs/USING.md": RELEASE,
+    "docs/howto/install.md": RELEASE,
     "page/README.md": RELEASE,
     "clients/python/pyproject.toml": r'^version = "(.*)"$',
     "clients/python/revealed/__init__.py": r'^__version__ = "(.*)"$',

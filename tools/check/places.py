@@ -8,7 +8,7 @@ import re
 CAMEL = r"[A-Z][a-z]+(?:[A-Z][a-z]+)+"
 # What ./rp and the library as one C file add to the statuses, and what is no limit that a user meets.
 OF_THE_SCRIPT, INNER = "70", {"walk.observations"}
-# What is found nowhere: a limit of which FORMATS_LIMITS has no phrase yet.
+# What is found nowhere: a limit or a line that has no phrase here yet.
 NEVER = r"(?!)"
 
 
@@ -59,23 +59,41 @@ def said(facts, phrases):
     return {name: re.sub(r"\\ |\s", r"\\s+", quoted(phrase)).replace(r"\{\}", number(most[name])) for name, phrase in phrases.items()}
 
 
-FORMATS_LIMITS = {
+LIMITS = {
+    "table.records": "| observations of a table | 1 to {} |", "table.goods": "| goods | 1 to {} |", "table.places": "| decimal places | at most {} |",
+    "table.largest": "| a number after scaling | at most {} |", "table.largest_expenditure": "after scaling | at most {} |",
+    "table.level_scale": "| efficiency level `e` | 1 to {} |", "table.name_bytes": "| name of a good | 1 to {} bytes |",
+    "table.new_records": "bundles or outputs | 1 to {} |", "table.budgets": "| budgets | 1 to {} |", "table.choices": "and of menus | 1 to {} |",
+    "menu.letters": "| letters of a menu | one to {} |", "menu.cells": "| cells of menus | at most {} |", "patch.patches": "| patches | at most {} |",
+    "generated.patches": "| patches, by `rp-wide` | at most {} |", "patch.places": "| patches, by `rp-wide` | at most {} |",
+    "patch.units": "| units of a budget or a menu | at most {} |", "types.combinations": "| combinations of patches | at most {};",
+    "types.types": "| rational types | at most {};", "generated.steps": "that `rp-wide` reports | at most {} |",
+    "command_line.draws": "| behaviours of `power` | 1 to {} |", "command_line.rows": "| observations of `trial` | 1 to {} |",
+    "run.bytes": "| a file | at most {} bytes |", "run.certificate_bytes": "| a certificate | at most {} bytes |",
+    "long.bytes": "| a long file of a panel | at most {} bytes |", "long.records": "| rows of a long file | at most {} |",
+    "long.household_bytes": "| an id | at most {} bytes |",
+}  # fmt: skip
+FILES_LIMITS = {
     "table.records": "1 to {} observations of 1 to", "table.goods": "of 1 to {} goods", "table.name_bytes": "NAME has 1 to {} bytes",
-    "table.places": "At most {} places are taken", "table.largest": "scaled numbers are at most {}", "table.level_scale": "from 1 to {}; it may",
-    "table.largest_expenditure": "scaled `m` and `w` are at most {}", "table.new_records": "| asked outputs | `w_NAME`, the new price of each input of the technology; `y`, the output that is asked | 1 to {} |",
-    "table.budgets": "the income | 1 to {} |", "table.choices": "times it was chosen from it | 1 to {} |", "run.bytes": "A file has at most {} bytes",
-    "run.certificate_bytes": "A file of at most {} bytes", "patch.patches": "have more than {} patches", "patch.units": "passes {} |",
-    "menu.cells": "more than {} cells", "menu.letters": "one to {} letters", "types.combinations": "more than {} ways",
-    "types.types": "more than {} rational types", "command_line.rows": "1 to {} observations of 1 to 16 goods: below under Trials",
-    "command_line.draws": "draws N behaviours, 1 to {}", "long.bytes": "long file has at most {} bytes", "long.records": "{} records, an id",
-    "long.household_bytes": "an id {} bytes", "generated.patches": "`rp-wide`: {} |", "patch.places": "`rp-wide`: {} |",
-    "generated.steps": "generates them in {} steps",
+    "table.places": "At most {} decimal places are taken", "table.largest": "scaled numbers are at most {}", "table.level_scale": "thousandths, from 1 to {} |",
+    "table.largest_expenditure": "scaled `m` and `w` are at most {}", "table.new_records": "| outputs | `w_NAME` for each input; `y` | 1 to {} |",
+    "table.budgets": "the income, above 0 | 1 to {} |", "table.choices": "The file has 1 to {} rows", "run.bytes": "A file has at most {} bytes",
+    "menu.cells": "at most {} cells", "menu.letters": "one to {} letters", "long.bytes": "file has at most {} bytes", "long.records": "{} rows, and ids",
+    "long.household_bytes": "ids of {} bytes",
 }  # fmt: skip
-USING_LIMITS = {
-    "table.largest": "none may be above {}", "table.places": "At most {} places are taken", "types.combinations": "taken in at most {} ways",
-    "types.types": "rational types, at most {}", "patch.units": "multiple is above {}", "patch.patches": "on {} patches",
-    "generated.patches": "up to {} patches", "generated.steps": "within {} steps",
+CERTIFICATE_LIMITS = {"run.certificate_bytes": "a file of at most {} bytes", "generated.steps": "tries at most {} beginnings"}
+RANDOM_LIMITS = {
+    "patch.patches": "more than {} patches up to", "patch.units": "passes {} |", "types.combinations": "more than {} combinations",
+    "types.types": "more than {} rational types", "generated.patches": "`rp-wide`: {} |", "generated.steps": "reports is at most {}",
 }  # fmt: skip
+# The page on which a line of reports is explained, for lines that more than one command prints, or that no command is named for.
+PAGE_OF_LINE = {
+    "analyse": "above afriat at below cycle efficiency garp homothetic lambda levels observations quasilinear ranks start utility values",
+    "check": "accepted rejected", "demand": "demand good inner lower none strict upper", "welfare": "welfare", "pump": "pump",
+    "menus": "alternatives menus sums", "random": "apportioned budgets part random weights", "cost": "bounds cost profit technology",
+    "pairs": "pair", "power": "power", "trial": "trial",
+}  # fmt: skip
+WORDS_OF = {"analyse": ("garp", "afriat", "homothetic", "quasilinear"), "menus": ("menus",), "random": ("random",), "cost": ("cost", "profit")}
 MANUAL_LIMITS = {
     "table.records": "A table has at most {} observations", "table.goods": "observations of {} goods. It", "command_line.rows": "1 to {} observations",
     "command_line.draws": "1 to {}, random behaviours", "patch.units": "units, 1 to {},",
@@ -85,7 +103,7 @@ STATA_LIMITS = {"table.places": "min({}, 7 - `whole')", "table.largest": "> {}, 
 
 def of_documents(facts):
     commands, statuses = facts["commands"], [it for it in facts["statuses"] if it["of"] == "program"]
-    names, faults, reasons = [it["name"] for it in commands], [it["name"] for it in facts["faults"]], facts["reasons"]
+    reasons = facts["reasons"]
     rows = {it["name"]: rf"^\| `rp {quoted(it['usage'])}` \|" for it in commands}
     told = {f"{it['name']} {' '.join(own)}".strip(): rf"`(?:rp: (?:NAME: )?)?{it['name']}{''.join(f' {place} [A-Z]' for place in own)}`"
             for it in facts["faults"] for own in it["places"]}  # fmt: skip
@@ -93,33 +111,42 @@ def of_documents(facts):
     words = {f"{name} {word}": rf"`{name} {word}\b" for name, own in facts["verdicts"].items() for word in own}
     columns = {f"{kind['name']} {it}": rf"`{quoted(it)}`" for kind in facts["kinds"] for it in kind["columns"] + kind["optional"]}
     row = all_of(r"^\| `rp (\w+)")
-    digits = all_of(r"^\| (\d+) \|")
-    is_fault = all_of(rf"`(?:rp: (?:[\w.]+: )?)?({CAMEL})\b")
-    lines = {it: rf"`{it}\b" for it in facts["lines"]}
     yield Place("docs/reference/README.md", "commands", rows, row)
-    yield Place("docs/reference/files.md", "commands", rows, row)
-    yield Place("docs/reference/files.md", "usage", {it["name"]: rf"^(?:usage:|      ) rp {quoted(it['usage'])}$" for it in commands},
-                all_of(r"^(?:usage:|      ) rp (\w+)"), r"^usage: rp .*?^\$")  # fmt: skip
-    yield Place("docs/reference/files.md", "faults", told, lambda own: set(is_fault(own)) - set(reasons), made_up="UnheardOf")
-    unsaid = [it["name"] for it in facts["limits"] if it["name"] not in {*FORMATS_LIMITS, *INNER}]
-    yield Place("docs/reference/files.md", "limits", {**said(facts, FORMATS_LIMITS), **{it: NEVER for it in unsaid}})
-    yield Place("docs/reference/files.md", "statuses", numbers, digits, r"^\| status \|.*?^$", "99")
-    yield Place("docs/reference/files.md", "reasons", {it: rf"`{it}\b" for it in reasons}, lambda own: all_of(r"`([A-Z][a-z]\w*)\b")(own),
-                r"^## The checker's order.*", "UnheardOf")  # fmt: skip
-    yield Place("docs/reference/files.md", "items of certificates", {it: rf'"item":"{it}"' for it in facts["certificates"]["tags"]},
-                all_of(r'"item":"(\w+)"'))  # fmt: skip
-    yield Place("docs/reference/files.md", "kinds of certificates", {it: rf'"kind":"{it}"|is\s+`"{it}"`' for it in facts["certificates"]["kinds"]})
-    yield Place("docs/reference/files.md", "words of verdicts", words)
-    yield Place("docs/reference/files.md", "lines of reports", lines)
+    for it in commands:
+        page = f"docs/reference/rp-{it['name']}.md"
+        yield Place(page, "usage", {it["name"]: rf"^rp {quoted(it['usage'])}(?: >.*)?$"})
+        yield Place(page, "sessions", {it["name"]: rf"^\$ \./rp {it['name']} "})
+    yield from of_errors(facts, told, numbers)
+    unsaid = [it["name"] for it in facts["limits"] if it["name"] not in {*LIMITS, *INNER}]
+    yield Place("docs/reference/limits.md", "limits", {**said(facts, LIMITS), **{it: NEVER for it in unsaid}})
+    for page, phrases in {"files": FILES_LIMITS, "certificate": CERTIFICATE_LIMITS, "rp-random": RANDOM_LIMITS}.items():
+        yield Place(f"docs/reference/{page}.md", "limits", said(facts, phrases))
     yield Place("docs/reference/files.md", "columns", columns)
-    yield Place("docs/USING.md", "sessions", {it: rf"^\$ \./rp {it} " for it in names})
-    yield Place("docs/USING.md", "verdicts", {it: rf"^\| `{it}` \|" for it in [*facts["verdicts"], "efficiency", "pump"]},
-                all_of(r"^\| `(\w+)` \|"), r"^\| verdict \| what it means.*?^$")  # fmt: skip
-    yield Place("docs/USING.md", "statuses", numbers, lambda own: set(digits(own)) - {OF_THE_SCRIPT}, r"^\| status \| for a script.*?^$", "99")
-    yield Place("docs/USING.md", "limits", said(facts, USING_LIMITS))
-    yield Place("docs/USING.md", "faults", {}, lambda own: set(all_of(r"^\| `([A-Z]\w+)`?")(own)) - set(faults), r"^\| you see \|.*?^$", "UnheardOf")
-    yield Place("docs/howto/referee.md", "reasons", {it: rf"^\| `{it}` \|" for it in reasons}, all_of(r"^\| `(\w+)` \|"), r"^\| reason \|.*?^$", "UnheardOf")
-    yield Place("docs/howto/referee.md", "items of certificates", {it: rf'`"{it}"`' for it in facts["certificates"]["tags"]})
+    certificate, tags = "docs/reference/certificate.md", facts["certificates"]["tags"]
+    yield Place(certificate, "reasons", {it: rf"^\| `{it}` \|" for it in reasons}, all_of(r"^\| `(\w+)` \|"), r"^\| Reason \|.*?^$", "UnheardOf")
+    yield Place(certificate, "reasons in order", {it: rf"`{it}`" for it in reasons}, all_of(r"`([A-Z][a-z]\w*)`"), r"^## The order of checks.*", "UnheardOf")
+    yield Place(certificate, "items of certificates", {it: rf'"item":"{it}"' for it in tags}, all_of(r'"item":"(\w+)"'))
+    yield Place(certificate, "kinds of certificates", {it: rf'"kind":"{it}"|is\s+`"{it}"`' for it in facts["certificates"]["kinds"]})
+    for page, own in PAGE_OF_LINE.items():
+        yield Place(f"docs/reference/rp-{page}.md", "lines of reports", {it: rf"^\|.*`{it}\b" for it in own.split()})
+    placed = {it for own in PAGE_OF_LINE.values() for it in own.split()}
+    yield Place("docs/reference/rp-analyse.md", "lines of all reports", {it: NEVER for it in facts["lines"] if it not in placed} or {"garp": "`garp"})
+    for page, own in WORDS_OF.items():
+        yield Place(f"docs/reference/rp-{page}.md", "words of verdicts", {it: rf"`{it}\b" for it in words if it.split()[0] in own})
+    yield Place("docs/explain/tests.md", "verdicts", {it: rf"^\| `{it}` \|" for it in [*facts["verdicts"], "efficiency", "pump"]},
+                all_of(r"^\| `(\w+)` \|"), r"^\| Verdict \| What it says.*?^$")  # fmt: skip
+    yield Place("docs/howto/referee.md", "items of certificates", {it: rf'`"{it}"`' for it in tags})
+
+
+def of_errors(facts, told, numbers):
+    """Yields what the page of error messages has to say."""
+    page, commands, faults = "docs/reference/errors.md", facts["commands"], {it["name"] for it in facts["faults"]}
+    code = all_of(rf"^\| `({CAMEL}|Empty|Ragged|Unpaired)\b")
+    yield Place(page, "usage", {it["name"]: rf"^(?:usage:|      ) rp {quoted(it['usage'])}$" for it in commands},
+                all_of(r"^(?:usage:|      ) rp (\w+)"), r"^usage: rp .*?^\$")  # fmt: skip
+    yield Place(page, "errors", told, code, r"^\| Code \|.*?^$", "UnheardOf")
+    yield Place(page, "exit codes", numbers, all_of(r"^\| (\d+) \|"), r"^\| Exit code \|.*?^$", "99")
+    yield Place(page, "errors by programs", {}, lambda own: set(code(own)) - faults, r"^\| You see \|.*?^$", "UnheardOf")
 
 
 def of_release(facts):

@@ -1,4 +1,4 @@
-% Tries the functions over the library, on the numbers of docs/USING.md: octave --no-gui clients/matlab/tests/try_rp.m
+% Tries the functions over the library, on the numbers of docs/reference: octave --no-gui clients/matlab/tests/try_rp.m
 % The examples are in the folder that the variable RP_EXAMPLES names; the program, where RP_EXEC names it, has to say the same.
 1;
 

@@ -72,7 +72,7 @@ def power_of_test(
 ) -> Power:
     """Returns how many of so many random behaviours on the budgets of a table, 1 to 1,000, violate the axiom.
 
-    How they are drawn stands in docs/USING.md: nearer to equal division than uniformly on the budget line. It is refused on a
+    How they are drawn stands in docs/reference/rp-power.md: nearer to equal division than uniformly on the budget line. It is refused on a
     table with levels.
     """
     own = table(p, q, decimals=decimals, numbers=numbers, levels=levels)

@@ -1,5 +1,5 @@
 """Random behaviour on the budgets of a table, uniformly on the budget line: what Bronars (1987) and Choi, Fisman, Gale and Kariv
-(2007) compare people with. The command `power` draws another way (docs/USING.md).
+(2007) compare people with. The command `power` draws another way (docs/explain/indices.md).
 
 The same seed gives the same behaviours in Python, in R and in the page (clients/tests/behaviours.json). The words are those of
 MRG32k3a (L'Ecuyer 1999), with the seeding of R's generator "L'Ecuyer-CMRG"; all else is reckoned in whole numbers.

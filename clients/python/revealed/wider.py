@@ -27,7 +27,7 @@ REFUSED = ("TooManyPatches", "TooManyCombinations", "TooManyTypes")
 OVER_CHOICES = ("random", "checkrandom", "patches")
 REFUSAL = re.compile(rb"(?m)^rp: (?:%s)\b" % "|".join(REFUSED).encode())
 # What is said of a value that stays withheld: the wider edition was asked, it was not to be asked, or it is not there.
-ASKED = "rp-wide found no evidence either; docs/USING.md, 'When a verdict is withheld', tells what can be done"
+ASKED = "rp-wide found no evidence either; docs/reference/limits.md, 'Undetermined results', says what to do"
 UNASKED = "rp-wide may give it: leave wide=False out"
 ABSENT = "rp-wide may give it, which is neither beside the program, nor in the library, nor named by the variable RP_WIDE"
 

@@ -1,4 +1,4 @@
-"""The lines of README, of EXPERIMENT and of the package's own texts: each `>>>` gives what stands below it."""
+"""The lines of README, of the documents and of the package's own texts: each `>>>` gives what stands below it."""
 
 import doctest
 import os
@@ -10,6 +10,7 @@ import unittest
 import revealed
 
 HERE = pathlib.Path(__file__).resolve().parents[1]
+TOP = HERE.parents[1]
 
 try:
     import matplotlib
@@ -34,25 +35,22 @@ class Lines(unittest.TestCase):
         self.runs(revealed.__doc__, "revealed")
         self.runs(revealed.plain.__doc__, "revealed.plain")
 
-    @unittest.skipUnless((HERE / "../../docs/howto/referee.md").exists(), "the repository is not here")
-    def test_referees(self):
-        before = os.getcwd()
-        os.chdir(HERE / "../..")
-        try:
-            self.runs((HERE / "../../docs/howto/referee.md").read_text(encoding="utf-8"), "referee.md")
-        finally:
-            os.chdir(before)
-
-    @unittest.skipIf(pandas is None, "pandas or matplotlib is not there")
-    def test_experiment(self):
+    @unittest.skipUnless((TOP / "docs" / "howto").is_dir(), "the repository is not here")
+    def test_documents(self):
+        """README and the documents of the repository, in a folder with its examples; what they write is thrown away."""
         before = os.getcwd()
         with tempfile.TemporaryDirectory() as folder:
-            os.symlink(HERE / "data", f"{folder}/data")
+            for name in ("examples", "docs"):
+                os.symlink(TOP / name, f"{folder}/{name}")
             os.chdir(folder)
             try:
-                self.runs((HERE / "EXPERIMENT.md").read_text(encoding="utf-8"), "EXPERIMENT.md")
-                for name in ("index.png", "subject.png"):
-                    self.assertTrue(pathlib.Path(name).read_bytes().startswith(b"\x89PNG"))
+                for path in [TOP / "README.md", *sorted((TOP / "docs").rglob("*.md"))]:
+                    text = path.read_text(encoding="utf-8")
+                    if ">>> " in text and (pandas is not None or "pandas" not in text):
+                        with self.subTest(path.name):
+                            self.runs(text, path.name)
+                            for name in re.findall(r'savefig\("([^"]+)"', text):
+                                self.assertTrue(pathlib.Path(name).read_bytes().startswith(b"\x89PNG"))
             finally:
                 os.chdir(before)
 

@@ -1,6 +1,6 @@
 """A second checker of certificates, beside the one in the program: slow and plain, over fractions.
 
-It is written from the definitions as docs/reference/files.md and docs/dev/DEFINITIONS.md tell them, shares no code with the program and
+It is written from the definitions as docs/reference and docs/dev/DEFINITIONS.md tell them, shares no code with the program and
 does not call it. Each kind of item has a page (`garp`, `afriat`, `efficiency`, `homothetic`, `quasilinear`, `demand`, `welfare`,
 `random_choices`, and of what stands in reports alone `pump`, `menus`, `cost`) that says what its evidence proves and why, and
 then looks. Nothing of it is proved.

@@ -1,4 +1,4 @@
-"""What a text says as a certificate (docs/reference/files.md, "Certificate as JSON").
+"""What a text says as a certificate (docs/reference/certificate.md).
 
 Each kind of item has its shapes below: the names of an object's members, and what stands under each. A number is a whole
 one (an observation, a patch, a rank) or a text; the types that the program gives its numbers are only remarked upon.

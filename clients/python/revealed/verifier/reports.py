@@ -1,4 +1,4 @@
-"""What the text of a report says (docs/reference/files.md): the reports of `pump`, `menus` and `cost`, which have no JSON form.
+"""What the text of a report says (docs/reference/rp-pump.md, rp-menus.md and rp-cost.md): the reports of `pump`, `menus` and `cost`, which have no JSON form.
 
 A report is read strictly: each line in its place, each number as it is written, and nothing else. What it says is given as
 mappings of names to whole numbers, fractions and lists of them; observations and inputs count from 1, as there.

@@ -140,7 +140,7 @@ is_refused <- function(ran) {
 }
 
 hints_of_wide <- list(
-  asked = "rp-wide found no evidence either; docs/USING.md, 'When a verdict is withheld', tells what can be done",
+  asked = "rp-wide found no evidence either; docs/reference/limits.md, 'Undetermined results', says what to do",
   unasked = "rp-wide may give it: leave wide = FALSE out",
   absent = "rp-wide may give it, which is neither beside the program, nor in the library, nor named by the variable RP_WIDE"
 )

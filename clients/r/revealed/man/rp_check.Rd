@@ -26,6 +26,9 @@ An \code{rp_checked}: \code{accepted}; and then \code{items} and how many values
 \code{item} that fails, with its \code{reason} and \code{place}; and \code{wide}, whether the program itself refuses the data. A
 certificate that is rejected is no error.
 }
+\references{
+Varian, H. R. (1982). The Nonparametric Approach to Demand Analysis. \emph{Econometrica} 50, 945--973.
+}
 \examples{
 if (!is.null(rp_program(must = FALSE))) {
   p <- rbind(c(1, 2), c(2, 1))

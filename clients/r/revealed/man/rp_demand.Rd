@@ -29,6 +29,9 @@ An \code{rp_demand}: \code{garp}, and \code{bounds}, a data frame with a row for
 Where the axiom fails no bundle keeps it, and all bounds are \code{NA}. The numbers of \code{bounds} are exact;
 \code{as.data.frame} has doubles beside them. \code{certificate} is for \code{\link{rp_check}}.
 }
+\references{
+Varian, H. R. (1982). The Nonparametric Approach to Demand Analysis. \emph{Econometrica} 50, 945--973.
+}
 \examples{
 if (!is.null(rp_program(must = FALSE))) {
   years <- data.frame(

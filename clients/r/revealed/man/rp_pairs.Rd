@@ -20,6 +20,9 @@ rp_first_contradiction(p, q = NULL, decimals = digits, levels = NULL,
 \value{
 An \code{rp_pairs}: \code{contradiction}, \code{TRUE} or \code{FALSE}, and \code{pair}, the labels of the two.
 }
+\references{
+Varian, H. R. (1982). The Nonparametric Approach to Demand Analysis. \emph{Econometrica} 50, 945--973.
+}
 \examples{
 if (!is.null(rp_program(must = FALSE))) {
   p <- rbind(c(1, 2), c(2, 1))

@@ -41,6 +41,11 @@ the panel, its faults by cause, and the first rows. Beside its columns it has \c
 matrix of the fields that the program writes of each, and \code{x$refusals}, a list of \code{NULL} or of the fault in words, a condition
 of the class \code{rp_error}. The certificate of a household is that of \code{\link{rp_test}} on its rows.
 }
+\references{
+Afriat, S. N. (1973). On a System of Inequalities in Demand Analysis: An Extension of the Classical Method. \emph{International Economic Review} 14, 460--472.
+
+Varian, H. R. (1982). The Nonparametric Approach to Demand Analysis. \emph{Econometrica} 50, 945--973.
+}
 \examples{
 if (!is.null(rp_program(must = FALSE))) {
   long <- data.frame(

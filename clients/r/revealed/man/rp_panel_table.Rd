@@ -24,6 +24,11 @@ were multiplied row by row, as exchanged intercepts are.}
 \value{
 The lines, which \code{print} writes out and \code{writeLines} writes to a file. Letters that LaTeX reads as more are written out.
 }
+\references{
+Afriat, S. N. (1973). On a System of Inequalities in Demand Analysis: An Extension of the Classical Method. \emph{International Economic Review} 14, 460--472.
+
+Bronars, S. G. (1987). The Power of Nonparametric Tests of Preference Maximization. \emph{Econometrica} 55, 693--698.
+}
 \examples{
 if (!is.null(rp_program(must = FALSE))) {
   long <- data.frame(

@@ -23,6 +23,9 @@ An \code{rp_patches}: \code{patch}, the numbers of the patches from 1, with \cod
 is, exactly, and \code{sides}, a matrix with a column for each budget: whether what is chosen in the patch costs \code{above} the income
 there, just that (\code{on}), or \code{below} it. \code{as.data.frame} has a row for each patch, with its sides as one text.
 }
+\references{
+Kitamura, Y. and Stoye, J. (2018). Nonparametric Analysis of Random Utility Models. \emph{Econometrica} 86, 1883--1909.
+}
 \seealso{\code{\link{rp_random}}}
 \examples{
 if (!is.null(rp_program(must = FALSE))) {

@@ -20,6 +20,9 @@ rp_random_trial(seed, rows, goods, exe = NULL, wide = TRUE)
 An \code{rp_trial}: \code{garp}, \code{efficiency}, \code{ccei}, \code{attained}, \code{homothetic}, \code{quasilinear} and
 \code{wide}, as \code{\link{rp_test}} has them.
 }
+\references{
+O'Neill, M. E. (2014). PCG: A Family of Simple Fast Space-Efficient Statistically Good Algorithms for Random Number Generation. Harvey Mudd College, technical report HMC-CS-2014-0905.
+}
 \examples{
 if (!is.null(rp_program(must = FALSE))) {
   print(rp_trial(7, 20, 3))

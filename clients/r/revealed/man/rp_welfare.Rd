@@ -23,6 +23,9 @@ An \code{rp_welfare}: \code{garp}, and \code{bounds}, a data frame with a row fo
 observation: \code{lower}, \code{upper}, and \code{at}, the observation whose bundle costs the upper bound. A lower bound that
 is withheld is \code{NA}, and \code{reason} says why; \code{wide} is whether \code{rp} itself withholds it. Where the axiom fails all bounds are \code{NA}.
 }
+\references{
+Varian, H. R. (1982). The Nonparametric Approach to Demand Analysis. \emph{Econometrica} 50, 945--973.
+}
 \examples{
 if (!is.null(rp_program(must = FALSE))) {
   years <- data.frame(
