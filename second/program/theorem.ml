@@ -160,6 +160,38 @@ let stated claim =
   | WelfareViolated -> [ ("welfare_no_consumer", sprintf "irrational %s %s" goods all, "it") ]
   | Nothing -> []
 
+(* What a claim states of people over every ordered field. *)
+let stated_over claim =
+  let held = "(held_over K (by_own observed))" and spent = "(spent_over K observed)" in
+  let some = sprintf "rationalizable_over K observed %s" and none = sprintf "irrational_over K observed %s" in
+  match claim with
+  | GarpHolds -> [ ("some_consumer_over", some held) ]
+  | GarpViolated -> [ ("no_consumer_over", none held) ]
+  | AfriatNumbers (u, l) ->
+      let u = folded "      " (List.map number u) and l = folded "      " (List.map number l) in
+      [ ("utility_over",
+         sprintf "exists u, least_allowed_over K observed (by_own observed)\n    %s\n    %s u /\\\n    increasing_over K %s u /\\ concave_over K %s u /\\ rationalizes_over K observed %s (by_utility_over K u)"
+           u l goods goods held) ]
+  | NoAfriatNumbers -> [ ("afriat_no_consumer_over", none held) ]
+  | EfficiencyIs (e, attained) -> [ ("efficiency_over", sprintf "claim_over K observed (EfficiencyIs %s %b)" (fraction e) attained) ]
+  | HomotheticHolds ->
+      [ ("homogeneous_utility_over",
+         sprintf "exists u, increasing_over K %s u /\\ concave_over K %s u /\\ homogeneous_over K %s u /\\\n    rationalizes_over K observed %s (by_utility_over K u)"
+           goods goods goods spent) ]
+  | HomotheticViolated ->
+      [ ("no_homothetic_consumer_over",
+         sprintf "forall prefers, preference_over K %s prefers -> homothetic_over K %s prefers ->\n    monotone_over K %s prefers \\/ nonsatiated_over K %s prefers -> ~ rationalizes_over K observed %s prefers"
+           goods goods goods goods spent) ]
+  | QuasilinearHolds ->
+      [ ("worth_in_money_over",
+         sprintf "exists v, increasing_over K %s v /\\ concave_over K %s v /\\ worth_over K observed v" goods goods) ]
+  | QuasilinearViolated -> [ ("no_worth_in_money_over", "forall v, ~ worth_over K observed v") ]
+  | DemandBounds _ -> [ ("demand_some_consumer_over", some spent) ]
+  | WelfareBounds _ -> [ ("welfare_some_consumer_over", some spent) ]
+  | DemandViolated -> [ ("demand_no_consumer_over", none spent) ]
+  | WelfareViolated -> [ ("welfare_no_consumer_over", none spent) ]
+  | Nothing -> []
+
 let write ~table_name ~table_text ~certificate_name ~certificate_text tb claims =
   let out = Buffer.create 65536 in
   let say form = Printf.kbprintf (fun out -> Buffer.add_char out '\n') out form in
@@ -168,7 +200,7 @@ let write ~table_name ~table_text ~certificate_name ~certificate_text tb claims 
   say "   Written by rp-second --theorem; Coq proves it:  coqc -Q second/theories Second THIS_FILE";
   say "   The definitions are in second/theories/Spec*.v; second/DEFINITIONS.md reads them. *)";
   say "From Coq Require Import ZArith QArith List String.";
-  say "From Second Require Import Judge.";
+  say "From Second Require Import Judge SpecOver OverClaims Reals.";
   say "Import ListNotations.";
   say "Open Scope Z_scope.";
   say "Open Scope string_scope.";
@@ -201,6 +233,23 @@ let write ~table_name ~table_text ~certificate_name ~certificate_text tb claims 
           say "Proof. pose (it := judge_claim judged %d%%nat eq_refl). exact (%s). Qed.\n" k proof)
         (stated claim))
     claims;
+  say "(* What they say of people whose goods are divided as any ordered field has it. *)";
+  let over = ref [] in
+  List.iteri (fun k claim ->
+      List.iter (fun (name, statement) ->
+          let name = fresh name in
+          names := name :: !names;
+          over := (name ^ " reals") :: !over;
+          say "Theorem %s : forall K, %s." name statement;
+          say "Proof. intros K. exact (judge_claim_over judged %d%%nat eq_refl K). Qed.\n" k)
+        (stated_over claim))
+    claims;
+  say "(* None of them rests on an axiom. *)";
   say "Definition every_theorem := (%s)." (String.concat ",\n  " (List.rev !names));
-  say "Print Assumptions every_theorem.";
+  say "Print Assumptions every_theorem.\n";
+  if !over <> [] then begin
+    say "(* The same of people with real quantities; under it are the axioms of Coq's library of real numbers. *)";
+    say "Definition with_real_quantities := (%s)." (String.concat ", " (List.rev !over));
+    say "Print Assumptions with_real_quantities."
+  end;
   Buffer.contents out
