@@ -59,7 +59,16 @@ let check_random budgets_name choices_name certificate_name per =
   | Refused why -> raise (Ended (4, fault_line (refusal_fault why)))
   | Prepared shares -> check_choices shares (certificate_of read_random certificate_name)
 
-let usage = "usage: rp-second TABLE CERT\n       rp-second BUDGETS CHOICES CERT [--per N]"
+(* The theorems that an accepted certificate on a table gives. *)
+let theorem table_name certificate_name =
+  let table_text = read_file 4_194_304 table_name and certificate_text = read_file 16_777_216 certificate_name in
+  let tb = numbers_of read_table table_name and certificate = certificate_of read_certificate certificate_name in
+  match check_certificate tb certificate with
+  | Accepted _ ->
+      (0, Theorem.write ~table_name ~table_text ~certificate_name ~certificate_text tb (List.map claim_of certificate.items))
+  | other -> answer other
+
+let usage = "usage: rp-second TABLE CERT\n       rp-second BUDGETS CHOICES CERT [--per N]\n       rp-second --theorem TABLE CERT"
 
 (* The names of files, and N: `--per N` or `--per=N` anywhere, and after `--` all words are names. *)
 let rec words_of names per = function
@@ -78,7 +87,11 @@ let () =
   let ended, out, line =
     try
       let ended, out =
-        match words_of [] None (List.tl (Array.to_list Sys.argv)) with
+        let words = List.tl (Array.to_list Sys.argv) in
+        let theorems = words <> [] && List.hd words = "--theorem" in
+        match words_of [] None (if theorems then List.tl words else words) with
+        | Some ([ table; certificate ], None) when theorems -> theorem table certificate
+        | _ when theorems -> raise (Ended (2, ""))
         | Some ([ table; certificate ], None) -> answer (check_table table certificate)
         | Some ([ budgets; choices; certificate ], per) -> answer (check_random budgets choices certificate per)
         | _ -> raise (Ended (2, ""))

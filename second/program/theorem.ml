@@ -1,0 +1,255 @@
+(* Writes what is accepted of a table as theorems of Coq, with both files in them. Nothing of it is trusted: Coq proves
+   what it writes, or refuses it. *)
+open Checker
+module Z = Big
+
+let sprintf = Printf.sprintf
+let listed one l = "[" ^ String.concat "; " (List.map one l) ^ "]"
+let number z = if Z.sign z < 0 then sprintf "(%s)" (Z.to_string z) else Z.to_string z
+let numbers = listed number
+let fraction { qnum; qden } = sprintf "(%s # %s)" (number qnum) (Z.to_string qden)
+let part = function Some q -> "Some " ^ fraction q | None -> "None"
+
+(* A list in lines of at most so many characters. *)
+let folded indent words =
+  let line = Buffer.create 128 and all = Buffer.create 1024 in
+  let out () = Buffer.add_buffer all line; Buffer.clear line in
+  List.iteri (fun i word ->
+      let word = if i = 0 then word else "; " ^ word in
+      if Buffer.length line + String.length word > 110 then (out (); Buffer.add_string all ("\n" ^ indent));
+      Buffer.add_string line word)
+    words;
+  out ();
+  "[" ^ Buffer.contents all ^ "]"
+
+(* Bytes as lines and pieces of text; those that are no plain text stand as numbers. *)
+let literal text =
+  let plain c = c >= ' ' && c <= '~' in
+  let quoted s = "\"" ^ String.concat "\"\"" (String.split_on_char '"' s) ^ "\"" in
+  let size = String.length text in
+  let parts = ref [] and begun = ref [] in
+  let flush_lines () =
+    if !begun <> [] then parts := sprintf "text_lines [\n  %s]" (String.concat ";\n  " (List.rev !begun)) :: !parts;
+    begun := [] in
+  let rec go i =
+    if i < size then begin
+      let rec run j = if j < size && j - i < 1000 && plain text.[j] then run (j + 1) else j in
+      let j = run i in
+      if j < size && text.[j] = '\n' then (begun := quoted (String.sub text i (j - i)) :: !begun; go (j + 1))
+      else begin
+        flush_lines ();
+        if j > i then (parts := ("text " ^ quoted (String.sub text i (j - i))) :: !parts; go j)
+        else begin
+          let rec odd k = if k < size && not (plain text.[k]) && k - i < 40 && (k = i || text.[k] <> '\n') then odd (k + 1) else k in
+          let k = odd i in
+          let bytes = List.init (k - i) (fun d -> string_of_int (Char.code text.[i + d])) in
+          parts := ("[" ^ String.concat "; " bytes ^ "]") :: !parts;
+          go k
+        end
+      end
+    end
+  in
+  go 0;
+  flush_lines ();
+  match List.rev !parts with [] -> "[]" | parts -> String.concat " ++\n  " parts
+
+(* A claim in Coq's words, and what it states: names, statements, and how each follows from the claim. *)
+let claim_text = function
+  | GarpHolds -> "GarpHolds" | GarpViolated -> "GarpViolated"
+  | AfriatNumbers (u, l) -> sprintf "AfriatNumbers %s %s" (numbers u) (numbers l)
+  | NoAfriatNumbers -> "NoAfriatNumbers"
+  | EfficiencyIs (e, attained) -> sprintf "EfficiencyIs %s %b" (fraction e) attained
+  | HomotheticHolds -> "HomotheticHolds" | HomotheticViolated -> "HomotheticViolated"
+  | QuasilinearHolds -> "QuasilinearHolds" | QuasilinearViolated -> "QuasilinearViolated"
+  | DemandBounds (p, m, bounds) ->
+      sprintf "DemandBounds %s %s %s" (numbers p) (number m)
+        (listed (fun (a, b) -> sprintf "(%s, %s)" (part a) (part b)) bounds)
+  | DemandViolated -> "DemandViolated"
+  | WelfareBounds (p, t, lower, upper, s) ->
+      let lower = match lower with Some q -> sprintf "(Some %s)" (fraction q) | None -> "None" in
+      sprintf "WelfareBounds %s %d %s %s %d" (numbers p) t lower (number upper) s
+  | WelfareViolated -> "WelfareViolated"
+  | Nothing -> "Nothing"
+
+let goods = "(goods observed)"
+let own = "(table_choices observed (by_own observed))"
+let all = "(table_choices observed (full observed))"
+
+let demanded name p m bounds =
+  let about good bound which value (of_consumers, of_utilities) =
+    let stated who n path =
+      (sprintf "%s_good_%d_%s_%s" name (good + 1) bound n,
+       sprintf "%s (%s observed %s %s) %d %s" which who (numbers p) (number m) good (fraction value),
+       sprintf path (sprintf "(proj2 (proj2 (proj2 it)) %d%%nat _ _ eq_refl)" good)) in
+    [ stated "bought_by_some" "of_consumers" of_consumers; stated "bought_by_utility" "of_utilities" of_utilities ] in
+  let bound good which_bound which value steps =
+    match value with Some v -> about good which_bound which v steps | None -> [] in
+  List.concat (List.mapi (fun good (lower, upper) ->
+      bound good "lower" "infimum_of" lower (format_of_string "proj1 %s", format_of_string "proj1 (proj2 %s)")
+      @ bound good "upper" "supremum_of" upper
+          (format_of_string "proj1 (proj2 (proj2 %s))", format_of_string "proj2 (proj2 (proj2 %s))"))
+    bounds)
+
+let stated claim =
+  match claim with
+  | GarpHolds ->
+      [ ("garp_holds", "garp observed (by_own observed)", "proj1 it");
+        ("some_consumer_rationalizes", sprintf "rationalizable %s %s" goods own, "proj2 it") ]
+  | GarpViolated ->
+      [ ("garp_violated", "~ garp observed (by_own observed)", "proj1 it");
+        ("no_consumer_rationalizes", sprintf "irrational %s %s" goods own, "proj2 it") ]
+  | AfriatNumbers (u, l) ->
+      let u = folded "      " (List.map number u) and l = folded "      " (List.map number l) in
+      [ ("afriat_numbers", sprintf "afriat_model observed (by_own observed)\n    (fun s => nth s %s 0)\n    (fun s => nth s %s 0)" u l,
+         "proj1 it");
+        ("rationalized_by_utility",
+         sprintf "exists u, least_allowed observed (by_own observed)\n    %s\n    %s u /\\\n    utility %s u /\\ increasing %s u /\\ concave %s u /\\ rationalizes %s (by_utility u) %s"
+           u l goods goods goods goods own, "proj2 it") ]
+  | NoAfriatNumbers ->
+      [ ("no_afriat_numbers", "forall U L, ~ afriat_model observed (by_own observed) U L", "proj1 it");
+        ("afriat_no_consumer", sprintf "irrational %s %s" goods own, "proj2 it") ]
+  | EfficiencyIs (e, attained) ->
+      let e = fraction e in
+      let at = sprintf "(table_choices observed (at_level observed %s))" e in
+      [ ("efficiency_is", sprintf "efficiency_index observed %s" e, "proj1 it");
+        ("efficiency_divides", sprintf "divides observed %s" e, "proj1 (proj2 it)") ]
+      @ if attained then
+          [ ("efficiency_attained", sprintf "garp_at observed %s" e, "proj1 (proj2 (proj2 it))");
+            ("efficiency_some_consumer", sprintf "rationalizable %s %s" goods at, "proj2 (proj2 (proj2 it))") ]
+        else
+          [ ("efficiency_not_attained", sprintf "~ garp_at observed %s" e, "proj1 (proj2 (proj2 it))");
+            ("efficiency_no_consumer", sprintf "irrational %s %s" goods at, "proj2 (proj2 (proj2 it))") ]
+  | HomotheticHolds ->
+      [ ("homothetic_test_holds", "homothetic_test observed", "proj1 it");
+        ("rationalized_by_homogeneous_utility",
+         sprintf "exists u, utility %s u /\\ increasing %s u /\\ concave %s u /\\\n    homogeneous %s u /\\ rationalizes %s (by_utility u) %s"
+           goods goods goods goods goods all, "proj2 it") ]
+  | HomotheticViolated ->
+      [ ("homothetic_test_violated", "~ homothetic_test observed", "proj1 it");
+        ("no_homothetic_consumer",
+         sprintf "forall prefers, preference %s prefers -> homothetic %s prefers ->\n    monotone %s prefers \\/ nonsatiated %s prefers -> ~ rationalizes %s prefers %s"
+           goods goods goods goods goods all, "proj2 it") ]
+  | QuasilinearHolds ->
+      [ ("quasilinear_test_holds", "quasilinear_test observed", "proj1 it");
+        ("rationalized_by_worth_in_money",
+         sprintf "exists v, utility %s v /\\ increasing %s v /\\ concave %s v /\\\n    rationalizes_with_money %s v %s"
+           goods goods goods goods all, "proj2 it") ]
+  | QuasilinearViolated ->
+      [ ("quasilinear_test_violated", "~ quasilinear_test observed", "proj1 it");
+        ("no_worth_in_money", sprintf "forall v, ~ rationalizes_with_money %s v %s" goods all, "proj2 it") ]
+  | DemandBounds (p, m, bounds) ->
+      ("demand_some_consumer", sprintf "exists x, bought_by_utility observed %s %s x" (numbers p) (number m),
+       "proj1 (proj2 (proj2 it))") :: demanded "demand" p m bounds
+  | DemandViolated -> [ ("demand_no_consumer", sprintf "irrational %s %s" goods all, "it") ]
+  | WelfareBounds (p, t, lower, upper, s) ->
+      let p = numbers p in
+      let consumer body =
+        sprintf "forall prefers, preference %s prefers ->\n    monotone %s prefers \\/ nonsatiated %s prefers -> rationalizes %s prefers %s ->\n    %s"
+          goods goods goods goods all body in
+      ("welfare_upper_bound",
+       sprintf "dot %s (bought observed %d) = %s /\\ (%s)" p s (number upper)
+         (consumer (sprintf "prefers (whole (bought observed %d)) (whole (bought observed %d))" s t)),
+       "conj (proj1 (proj2 it)) (fun prefers h w r => proj2 (proj2 (proj2 it) prefers h w r))")
+      :: (match lower with
+          | None -> []
+          | Some v ->
+              [ ("welfare_lower_bound",
+                 consumer (sprintf "forall x, bundle %s x -> prefers x (whole (bought observed %d)) -> (%s <= costs_at %s x)%%Q"
+                   goods t (fraction v) p),
+                 "fun prefers h w r => proj1 (proj2 (proj2 it) prefers h w r)") ])
+  | WelfareViolated -> [ ("welfare_no_consumer", sprintf "irrational %s %s" goods all, "it") ]
+  | Nothing -> []
+
+(* What a claim states of people over every ordered field. *)
+let stated_over claim =
+  let held = "(held_over K (by_own observed))" and spent = "(spent_over K observed)" in
+  let some = sprintf "rationalizable_over K observed %s" and none = sprintf "irrational_over K observed %s" in
+  match claim with
+  | GarpHolds -> [ ("some_consumer_over", some held) ]
+  | GarpViolated -> [ ("no_consumer_over", none held) ]
+  | AfriatNumbers (u, l) ->
+      let u = folded "      " (List.map number u) and l = folded "      " (List.map number l) in
+      [ ("utility_over",
+         sprintf "exists u, least_allowed_over K observed (by_own observed)\n    %s\n    %s u /\\\n    increasing_over K %s u /\\ concave_over K %s u /\\ rationalizes_over K observed %s (by_utility_over K u)"
+           u l goods goods held) ]
+  | NoAfriatNumbers -> [ ("afriat_no_consumer_over", none held) ]
+  | EfficiencyIs (e, attained) -> [ ("efficiency_over", sprintf "claim_over K observed (EfficiencyIs %s %b)" (fraction e) attained) ]
+  | HomotheticHolds ->
+      [ ("homogeneous_utility_over",
+         sprintf "exists u, increasing_over K %s u /\\ concave_over K %s u /\\ homogeneous_over K %s u /\\\n    rationalizes_over K observed %s (by_utility_over K u)"
+           goods goods goods spent) ]
+  | HomotheticViolated ->
+      [ ("no_homothetic_consumer_over",
+         sprintf "forall prefers, preference_over K %s prefers -> homothetic_over K %s prefers ->\n    monotone_over K %s prefers \\/ nonsatiated_over K %s prefers -> ~ rationalizes_over K observed %s prefers"
+           goods goods goods goods spent) ]
+  | QuasilinearHolds ->
+      [ ("worth_in_money_over",
+         sprintf "exists v, increasing_over K %s v /\\ concave_over K %s v /\\ worth_over K observed v" goods goods) ]
+  | QuasilinearViolated -> [ ("no_worth_in_money_over", "forall v, ~ worth_over K observed v") ]
+  | DemandBounds _ -> [ ("demand_some_consumer_over", some spent) ]
+  | WelfareBounds _ -> [ ("welfare_some_consumer_over", some spent) ]
+  | DemandViolated -> [ ("demand_no_consumer_over", none spent) ]
+  | WelfareViolated -> [ ("welfare_no_consumer_over", none spent) ]
+  | Nothing -> []
+
+let write ~table_name ~table_text ~certificate_name ~certificate_text tb claims =
+  let out = Buffer.create 65536 in
+  let say form = Printf.kbprintf (fun out -> Buffer.add_char out '\n') out form in
+  let comment name = String.map (fun c -> if c = '*' || c = '"' || c = '(' || c < ' ' then '.' else c) name in
+  say "(* The verdicts on the table %s, from the certificate %s, as theorems." (comment table_name) (comment certificate_name);
+  say "   Written by rp-second --theorem; Coq proves it:  coqc -Q second/theories Second THIS_FILE";
+  say "   The definitions are in second/theories/Spec*.v; second/DEFINITIONS.md reads them. *)";
+  say "From Coq Require Import ZArith QArith List String.";
+  say "From Second Require Import Judge SpecOver OverClaims Reals.";
+  say "Import ListNotations.";
+  say "Open Scope Z_scope.";
+  say "Open Scope string_scope.";
+  say "Open Scope list_scope.";
+  say "";
+  say "(* The bytes of both files. *)";
+  say "Definition table_file : bytes := %s.\n" (literal table_text);
+  say "Definition certificate_file : bytes := %s.\n" (literal certificate_text);
+  say "(* Prices, quantities and levels of the observations, in scaled units. *)";
+  let rows name l = say "Definition %s : list (list Z) := [\n  %s]." name (String.concat ";\n  " (List.map numbers l)) in
+  rows "observed_prices" tb.prices;
+  rows "observed_quantities" tb.quantities;
+  say "Definition observed : table := Table observed_prices observed_quantities %s.\n" (numbers tb.levels);
+  say "Definition claims : list claim := [%s].\n" (String.concat ";\n  " (List.map claim_text claims));
+  say "Lemma judged : judge table_file certificate_file = Some (observed, claims).";
+  say "Proof. vm_cast_no_check (eq_refl (Some (observed, claims))). Qed.\n";
+  say "(* The table is what the bytes denote, and they denote no other. *)";
+  say "Theorem table_denoted : denotes table_file observed /\\ forall other, denotes table_file other -> other = observed.";
+  say "Proof. exact (judged_table judged). Qed.\n";
+  let used = Hashtbl.create 16 and names = ref [ "table_denoted" ] in
+  let fresh name =
+    let n = try Hashtbl.find used name + 1 with Not_found -> 1 in
+    Hashtbl.replace used name n;
+    if n = 1 then name else sprintf "%s_%d" name n in
+  List.iteri (fun k claim ->
+      List.iter (fun (name, statement, proof) ->
+          let name = fresh name in
+          names := name :: !names;
+          say "Theorem %s : %s." name statement;
+          say "Proof. pose (it := judge_claim judged %d%%nat eq_refl). exact (%s). Qed.\n" k proof)
+        (stated claim))
+    claims;
+  say "(* What they say of people whose goods are divided as any ordered field has it. *)";
+  let over = ref [] in
+  List.iteri (fun k claim ->
+      List.iter (fun (name, statement) ->
+          let name = fresh name in
+          names := name :: !names;
+          over := (name ^ " reals") :: !over;
+          say "Theorem %s : forall K, %s." name statement;
+          say "Proof. intros K. exact (judge_claim_over judged %d%%nat eq_refl K). Qed.\n" k)
+        (stated_over claim))
+    claims;
+  say "(* None of them rests on an axiom. *)";
+  say "Definition every_theorem := (%s)." (String.concat ",\n  " (List.rev !names));
+  say "Print Assumptions every_theorem.\n";
+  if !over <> [] then begin
+    say "(* The same of people with real quantities; under it are the axioms of Coq's library of real numbers. *)";
+    say "Definition with_real_quantities := (%s)." (String.concat ", " (List.rev !over));
+    say "Print Assumptions with_real_quantities."
+  end;
+  Buffer.contents out
