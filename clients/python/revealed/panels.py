@@ -240,17 +240,18 @@ class Panel(list):
 
         return pictures.of_panel(self, ax, **more)
 
-    def text(self) -> str:
-        """Returns a table of the panel for a paper, as plain text."""
+    def text(self, **more: Any) -> str:
+        """Returns a table of the panel for a paper, as plain text. `units="subjects"` says what its units are called, where the column
+        that tells them apart does not, and `thresholds=("0.95", "0.90")` which shares above a level of the index it has."""
         from . import papers
 
-        return papers.text(self)
+        return papers.text(self, **more)
 
-    def latex(self) -> str:
-        """Returns a table of the panel for a paper, as LaTeX (with booktabs)."""
+    def latex(self, **more: Any) -> str:
+        """Returns the table of `text` as LaTeX (with booktabs)."""
         from . import papers
 
-        return papers.latex(self)
+        return papers.latex(self, **more)
 
 
 NO_PANDAS = "a frame needs the package pandas, which is not here: pip install pandas; .records() has the same without it, and .text() and .latex() too"
