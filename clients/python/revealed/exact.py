@@ -230,6 +230,17 @@ def nearest_double(number: Fraction | None) -> float:
     return near if near or not number else math.nextafter(0, 1)
 
 
+def double_below(number: Fraction) -> float:
+    """Returns the greatest double that is no greater than a number."""
+    near = number.numerator / number.denominator
+    return math.nextafter(near, -math.inf) if Fraction(near) > number else near
+
+
+def double_above(number: Fraction) -> float:
+    """Returns the least double that is no less than a number."""
+    return -double_below(-number)
+
+
 def whole_of(text: str) -> int:
     """Returns the whole number that digits spell, however many there are: Python reads 4,300 of them at once."""
     if len(text) <= 4000:

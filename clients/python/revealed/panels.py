@@ -22,7 +22,7 @@ from .exact import AS_THEY_ARE
 from .faults import AllRefused, BadData, NoProgram, Pooled, Refused, WrongColumns
 from .frames import Frame, near, own_labels, prices_of, values_of
 from .long_call import BLANKS, COLUMNS, DECIDING, ID_BYTES, LONG, OF_ID, Asked, answered, in_turn, line_of
-from .tables import OWN_MONEY, Forms, Sheet, Table, forms_of, takes_places
+from .tables import OWN_MONEY, Forms, Sheet, Table, forms_of, takes_places, thousandths
 
 # Fewer households than this are asked about by this thread alone, and no more in one call.
 FEW, BLOCK = 50, 200
@@ -415,6 +415,8 @@ class LongFrame(Sheet):
         if self.own_money and asked.pump:
             raise BadData(f"the money pump: {OWN_MONEY}; leave pump=True out")
         self.levels, of_levels = self._levels(levels)
+        if self.levels is not None:
+            self.levels = thousandths(self.levels)
         quantities = ["q_" + good for good in self.goods]
         self.sides = [[frame.columns[name] for name in side] for side in (price_columns, quantities)]
         columns = [column for side in self.sides for column in side] + ([] if self.levels is None else [self.levels])

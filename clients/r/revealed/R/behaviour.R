@@ -174,7 +174,7 @@ summary_cells <- function(panel, digits, tests, thresholds) {
   switch(inside(panel)$ask,
     test = c(
       common, "GARP holds" = share_told(own$garp), index(own$efficiency_exact, "CCEI"),
-      named(vapply(thresholds, function(it) share_told(own$efficiency_exact >= exact(it)), ""), paste("CCEI of at least", thresholds)),
+      named(vapply(thresholds, function(it) share_told(own$efficiency_exact >= exact(it)), ""), paste("CCEI of at least", sub("^(0[.][0-9])$", "\\10", thresholds))),
       if ("homothetic" %in% tests) c("Homothetic holds" = share_told(own$homothetic)),
       if ("quasilinear" %in% tests) c("Quasilinear holds" = share_told(own$quasilinear))
     ),

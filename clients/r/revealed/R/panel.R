@@ -84,7 +84,10 @@ panel_sides <- function(data, id, levels = NULL) {
     if (!is.null(sides$levels)) bad_data("levels are given twice: by the column e and by the argument")
     sides$levels <- levels_for(levels, nrow(data))
   }
-  if (!is.null(sides$levels)) warn_of_levels(number_texts(sides$levels))
+  if (!is.null(sides$levels)) {
+    sides$levels <- thousandths(sides$levels)
+    warn_of_levels(number_texts(sides$levels))
+  }
   sides
 }
 

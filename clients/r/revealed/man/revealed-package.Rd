@@ -26,8 +26,8 @@ nothing is rounded: times both intercepts, a price of 1 over an intercept is the
 its own then: \code{\link{rp_pump}} refuses the table, and \code{quasilinear} is \code{NA}, with the reason.
 }
 \section{Levels}{
-A column \code{e} of a data frame, or the argument \code{levels}, gives each observation a level of its own, in whole
-thousandths from 1 to 1000: how much of what was spent there counts (Varian 1990). \code{\link{rp_test}},
+A column \code{e} of a data frame, or the argument \code{levels}, gives each observation a level of its own, a share
+such as 0.95 or whole thousandths from 1 to 1000: how much of what was spent there counts (Varian 1990). \code{\link{rp_test}},
 \code{\link{rp_pairs}}, \code{\link{rp_utility}}, \code{\link{rp_check}} and \code{\link{rp_panel}} take them; the other calls
 refuse a table that has them (\code{OwnLevels}), because what they answer is not defined with levels.
 }
