@@ -207,6 +207,7 @@ class Verdict:
         if self.cycle:
             lines.insert(1, "cycle " + " ".join(map(str, self.cycle)))
         told = [*lines, *(f"{name}: {why}" for name, why in self.reasons.items())]
+        told += [str(self.table.offered)] if self.table.offered else []
         return with_numbers("\n".join(told if self.proved else [*told, NO_PROOF]), self.table)
 
 

@@ -149,6 +149,11 @@ def are_plain(row: list[Any]) -> bool:
     return kinds == {str} and all(map(_PLAIN.fullmatch, row))
 
 
+def is_plain(text: str) -> bool:
+    """Whether a text is a number of digits and perhaps a point, as the program takes it."""
+    return _PLAIN.fullmatch(text) is not None
+
+
 def shown(value: Any, how: Callable[[Any], str] = str, most: int = 120) -> str:
     """Returns a value as it is told in a message: its beginning where it is long, and of a whole number that is long its size."""
     if isinstance(value, (int, Fraction)) and fault_of_length(value):

@@ -109,7 +109,7 @@ def lines_of(panel: Any, units: str | None = None, thresholds: Iterable[Any] = T
 def notes_of(panel: Any) -> list[str]:
     """Returns what stands below the table: why something has no line there, and how numbers were taken."""
     own_money = any(row.own_money for row in panel if row.fault is None)
-    return [*([ABSENT] if own_money else []), *([f"numbers: {panel.numbers}"] if panel.numbers else [])]
+    return [*([ABSENT] if own_money else []), *([str(panel.offered)] if panel.offered else []), *([f"numbers: {panel.numbers}"] if panel.numbers else [])]
 
 
 ABSENT = f"quasilinear and money pump are absent: {OWN_MONEY}"

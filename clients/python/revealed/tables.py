@@ -14,6 +14,7 @@ from .exact import AS_THEY_ARE, Form
 from .faults import BadData, Refused, WrongColumns
 from .frames import Frame, is_frame, listed, near, need, no_panel, numbered, one_row, own_labels, pairs_of
 from .frames import prices_of, rows_of, starting, values_of
+from .offered import Offered, spent
 
 
 class Sheet:
@@ -189,8 +190,14 @@ class Table(Sheet):
             names, kinds, asked = [*names, "e"], [*kinds, LEVELS], [*asked, AS_THEY_ARE]
             rows = [[*row, level] for row, level in zip(rows, levels)]
         super().__init__("table", names, rows, labels, kinds, asked, "p_NAME and q_NAME for each good")
+        # What choices spent of the offered budgets, where these are told by intercepts; else None.
+        self.offered: Offered | None = None
         if own_money:
             self.told = [*(f"i_{good}" for good in reversed(self.goods)), *self.names[count:]]
+            # The prices are the intercepts exchanged.
+            lines = [[row[1], row[0]] for row in self.texts]
+            names = [self.told[1], self.told[0], *self.names[count : 2 * count]]
+            self.offered = spent(lines, [row[count : 2 * count] for row in self.texts], labels, names)
 
     def __len__(self) -> int:
         return len(self.rows)

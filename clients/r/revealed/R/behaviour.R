@@ -8,6 +8,8 @@ rp_random_panel <- function(panel, times = NULL, seed = 1, workers = NULL, progr
   # A thousand behaviours, or a few more, where nothing is said.
   times <- if (is.null(times)) ceiling(1000 / length(own)) else as.integer(whole_word(times, "times", "1", "1000000"))
   drawn <- drawn_data(panel, own, times, seed_of(seed))
+  # What is drawn has units of its own, so nothing is said of the budgets that were offered.
+  attr(drawn, "rp_drawn") <- TRUE
   rp_panel(drawn, c(inside(panel)$id, "draw"), ask = inside(panel)$ask, workers = workers, progress = progress, exe = exe)
 }
 
@@ -125,7 +127,7 @@ rp_panel_table <- function(panel, random = NULL, what = c("summary", "households
   }
   asked <- tests
   tests <- intersect(tests, tests_of(inside(panel)$own_money))
-  notes <- c(if (!setequal(asked, tests)) paste("quasilinear and money pump are absent:", own_money), inside(panel)$numbers)
+  notes <- c(if (!setequal(asked, tests)) paste("quasilinear and money pump are absent:", own_money), offered_line(inside(panel)$offered), inside(panel)$numbers)
   cells <- if (what == "households") household_cells(panel, digits, tests) else {
     sides <- lapply(c(list(panel), if (!is.null(random)) list(random)), summary_cells, digits = digits, tests = tests, thresholds = thresholds)
     named(c(list(names(sides[[1]])), lapply(sides, unname)), c("", names[seq_along(sides)]))

@@ -27,6 +27,10 @@ table_of_sides <- function(sides, forms, advice = id_advice(NULL)) {
   warn_of_levels(found$levels)
   found$left_out <- sides$left_out
   found$own_money <- isTRUE(sides$own_money)
+  # The prices are the intercepts exchanged.
+  if (found$own_money && !isTRUE(sides$is_drawn)) {
+    found$offered <- offered_of(found$texts[2:1], found$texts[3:4], labels, c(found$names[2:1], found$names[3:4]))
+  }
   structure(found, class = "rp_table")
 }
 

@@ -65,6 +65,19 @@ stopifnot(grepl("money of its own", conditionMessage(caught(rp_pump(lines), "rp_
 two <- cbind(s = 1, lines)
 stopifnot(grepl("money of its own", conditionMessage(caught(rp_panel(two, "s", ask = "pump"), "rp_bad_data"))))
 of_lines <- rp_panel(two, "s", workers = 1)
+# what choices spent of the offered budgets, by hand: from x + y <= 10, 7/10 and 9/10, which halves of a unit make no whole, and make one
+offered <- function(x, y, i_x = 10, i_y = 10) data.frame(i_x = i_x, i_y = i_y, q_x = x, q_y = y)
+found <- rp_test(offered(c(5, 3, 5), c(5, 4, 4)))$table$offered
+stopifnot(found$rows == 3, identical(found$below, 2L), found$least == 0.7, found$at == 2)
+shown <- capture.output(print(rp_test(offered(c(5, 3, 5), c(5, 4, 4)))))
+stopifnot(sum(shown == "offered budgets: 1 of 3 choices spent less than was offered by more than rounding; minimum share 0.7000, row 2") == 1)
+stopifnot(identical(rp_test(offered(c("5.0", "3.0", "5.0"), c("5.0", "4.0", "4.0")))$table$offered$below, 2:3))
+wrong <- caught(rp_test(offered(c(5, 9), c(5, 9))), "rp_overspent")
+stopifnot(wrong$label == 2, wrong$share == 1.8, wrong$count == 1, grepl("row 2 (i_x 10, i_y 10, q_x 9, q_y 9): the choice costs 1.8000", conditionMessage(wrong), fixed = TRUE))
+stopifnot(!length(rp_test(offered(5, 6))$table$offered$below), inherits(caught(rp_test(offered("5.0", "6.0")), "rp_overspent"), "rp_error"))
+wrong <- caught(rp_panel(cbind(s = c("u", "u", "v"), offered(c(5, 9, 9), c(5, 9, 8))), "s", workers = 1), "rp_overspent")
+stopifnot(grepl("2 of u", conditionMessage(wrong)), grepl("1 other choice does too", conditionMessage(wrong)))
+stopifnot(caught(rp_test(offered(5, 5, i_y = 0)), "rp_refused")$fault == "ZeroPrice", any(grepl("^offered budgets: all 4 choices", capture.output(print(of_lines)))))
 stopifnot(!"quasilinear" %in% rownames(summary(of_lines)$table), !any(grepl("Quasilinear", texts(rp_panel_table(of_lines, rp_random_panel(of_lines, 2, 1))))))
 drawn <- rp_random_panel(of_lines, 1, 1)$data
 stopifnot(setdiff(names(drawn), c(names(lines), "draw", "obs")) == character(), drawn$i_x / drawn$i_x[1] == as.numeric(lines$i_x) / as.numeric(lines$i_x[1]))
