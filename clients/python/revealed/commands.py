@@ -43,7 +43,9 @@ def certify(p: Any, q: Any = None, *, levels: Any = None, decimals: Any = None, 
 
 
 @takes_places
-def first_contradiction(p: Any, q: Any = None, *, levels: Any = None, decimals: Any = None, numbers: Any = "shortest", exe: Any = None) -> tuple[Any, Any] | None:
+def first_contradiction(
+    p: Any, q: Any = None, *, levels: Any = None, decimals: Any = None, numbers: Any = "shortest", exe: Any = None
+) -> tuple[Any, Any] | None:
     """Returns the labels of the first two rows that contradict each other, the one weakly preferred to the other and that strictly
     to it; None where no two do. It is a quick look: longer cycles are seen by `analyse`."""
     own = table(p, q, decimals=decimals, numbers=numbers, levels=levels)
@@ -125,7 +127,9 @@ def welfare_bounds(
 
 
 @takes_places
-def afriat_utility(p: Any, q: Any = None, bundles: Any = None, *, levels: Any = None, decimals: Any = None, numbers: Any = "shortest", exe: Any = None) -> Answers:
+def afriat_utility(
+    p: Any, q: Any = None, bundles: Any = None, *, levels: Any = None, decimals: Any = None, numbers: Any = "shortest", exe: Any = None
+) -> Answers:
     """Returns the utility of each bundle under the Verdict's Afriat numbers, in their scale: money where lambda is 1."""
     own = table(p, q, decimals=decimals, numbers=numbers, levels=levels)
     sheet = _new(own, bundles, "q_", forms=forms_of(decimals, numbers))

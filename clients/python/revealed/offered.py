@@ -38,9 +38,9 @@ class Offered(NamedTuple):
     at: Any
 
     def __str__(self) -> str:
-        off = f"{len(self.below):,} of {self.rows:,} choices spent less than was offered by more than rounding" if self.below else (
-            f"all {self.rows:,} choices lie on their lines, within rounding"
-        )
+        off = f"all {self.rows:,} choices lie on their lines, within rounding"
+        if self.below:
+            off = f"{len(self.below):,} of {self.rows:,} choices spent less than was offered by more than rounding"
         return f"offered budgets: {off}; minimum share {told(self.least)}, row {exact.shown(self.at, str)}"
 
 

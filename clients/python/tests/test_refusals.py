@@ -205,7 +205,14 @@ class Levels(unittest.TestCase):
             self.assertIn("leave pump and power out", caught.exception.hint)
 
     def test_levels_that_are_none(self):
-        for levels, fault in [([0.8005, 1], "BadNumber"), ([800.5, 1], "BadNumber"), ([0.8, 900], "BadNumber"), ([0, 1], "BadLevel"), ([1001, 1], "BadLevel"), ([None, 1], "BadNumber")]:
+        for levels, fault in [
+            ([0.8005, 1], "BadNumber"),
+            ([800.5, 1], "BadNumber"),
+            ([0.8, 900], "BadNumber"),
+            ([0, 1], "BadLevel"),
+            ([1001, 1], "BadLevel"),
+            ([None, 1], "BadNumber"),
+        ]:
             with self.assertRaises(Refused) as caught:
                 revealed.analyse(P, Q, levels=levels)
             self.assertEqual((caught.exception.fault, caught.exception.name, caught.exception.record), (fault, "e", 1))
