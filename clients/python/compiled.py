@@ -5,6 +5,7 @@ fits every version of Python on systems of this kind.
 """
 
 import os
+import platform
 import re
 import sys
 import sysconfig
@@ -17,10 +18,22 @@ FLAGS = {"unix": ["-O1", "-g0"], "mingw32": ["-O1", "-g0"]}
 # On x86 of 32 bits doubles are rounded after each operation by these alone.
 SSE = ["-msse2", "-mfpmath=sse"]
 WITHOUT = "--config-settings=library=none installs the package without it, for a program rp or a library that is elsewhere"
-ADVICE = (
-    "install one (Debian and Ubuntu: apt install gcc libc6-dev; Fedora: dnf install gcc; a Mac: xcode-select --install; Windows: "
-    "the Build Tools for Visual Studio), or take the wheel of the release for this system, which wants no compiler; " + WITHOUT
-)
+# What to install where there is no compiler, by the platform that Python tells.
+COMPILERS = {
+    "darwin": "install Apple's command line tools (xcode-select --install)",
+    "win32": "install the Build Tools for Visual Studio, with the tools for C++",
+    "linux": "install one (Debian and Ubuntu: apt install gcc libc6-dev; Fedora: dnf install gcc; Alpine: apk add gcc musl-dev)",
+}
+# The platforms of which a release has a wheel with the library inside.
+HAVE_WHEELS = {("linux", "x86_64"), ("linux", "amd64"), ("win32", "amd64"), ("win32", "x86_64")}
+
+
+def advice(system=sys.platform, machine=None):
+    """Returns what to do where there is no compiler."""
+    machine = (machine or platform.machine()).lower()
+    does = COMPILERS.get(system, "install a C compiler")
+    wheel = ", or take the wheel of the release for this system, which needs no compiler" if (system, machine) in HAVE_WHEELS else ""
+    return f"{does} and run pip again{wheel}; {WITHOUT}"
 
 
 class Failed(Exception):
@@ -71,6 +84,6 @@ def compiled(folder):
             compiler.link_shared_object(objects, f"{room}/{NAME}", export_symbols=calls)
         except Exception as wrong:
             reason = " ".join(str(wrong).split()) or type(wrong).__name__
-            raise Failed(f"rp.c, the library, was not compiled: there is no C compiler that works ({reason}): {ADVICE}") from None
+            raise Failed(f"rp.c, the library, was not compiled: there is no C compiler that works ({reason}): {advice()}") from None
         with open(f"{room}/{NAME}", "rb") as it:
             return it.read()

@@ -3,7 +3,8 @@ package. The same sources give the same bytes.
 
 usage: wheels.py FOLDER [FILE..]
 
-Without files it writes the wheel for every platform, and the sdist. With the library `librp.so` or `rp.dll`, or the
+Without files it writes the sdist alone: a wheel for every platform has no library inside, and pip would take it before the sdist that
+compiles one. With the library `librp.so` or `rp.dll`, or the
 program `rp` or `rp.exe`, it writes the wheel of that platform, which has them inside, and among its own documents the
 files `NOTICE` and `PROVED` of a release where they are given. pip gives them by `--config-settings=library=FILE`,
 `program=FILE` and `told=FILE`; where it is given none in an unpacked release, the library of that release goes inside.
@@ -206,6 +207,4 @@ if __name__ == "__main__":
     if any(os.path.basename(it) == "rp.c" for it in sys.argv[2:]):
         print(build_sdist(sys.argv[1], extra=sys.argv[2:]))
         sys.exit()
-    print(write_wheel(sys.argv[1], sys.argv[2:]))
-    if not sys.argv[2:]:
-        print(build_sdist(sys.argv[1]))
+    print(write_wheel(sys.argv[1], sys.argv[2:]) if sys.argv[2:] else build_sdist(sys.argv[1]))

@@ -194,8 +194,7 @@ def built_by_r(files, when, programs):
 
 def python(when, inside=None, notice="", proved=""):
     """Returns the wheel of Python that has this library or program inside, with its NOTICE and its PROVED; the sdist that
-    compiles the library, where this is rp.c and rp.h; or where there is none, the wheel for every platform and the sdist;
-    by their names."""
+    compiles the library, where this is rp.c and rp.h; or where there is none, the sdist without a library; by their names."""
     given = {**(inside or {}), **({"NOTICE": notice.encode(), "PROVED": proved.encode()} if inside else {})}
     with tempfile.TemporaryDirectory(prefix="rp-wheels-") as room:
         os.mkdir(f"{room}/made")

@@ -45,6 +45,7 @@ from .commands import (
 )
 from .faults import AllRefused, BadData, Failed, NoFile, NoProgram, Pooled, Problem, Refused, Unreadable, WrongColumns
 from .measures import CostBound, CostMinimisation, MenuVerdict, MoneyPump, OrderPart, Power, Trial
+from .offered import Offered, Overspent
 from .panels import Panel, Row, panel
 from .tables import Choices, MenuChoices, Table, Technology, from_frame, table
 from .verifier import Finding, Findings, NoCertificate, NoReport, NoTable
@@ -70,7 +71,9 @@ __all__ = [
     "NoProgram",
     "NoReport",
     "NoTable",
+    "Offered",
     "OrderPart",
+    "Overspent",
     "Panel",
     "Part",
     "Patch",

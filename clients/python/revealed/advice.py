@@ -14,7 +14,7 @@ LARGEST = LIMITS["table.largest"]
 LARGEST_MONEY = LIMITS["table.largest_expenditure"]
 # What is scaled by one power of ten, by the name that a column has in a sheet.
 PRICES, QUANTITIES, LEVELS, MONEY, WHOLE = "prices", "quantities", "levels", "money", "whole numbers"
-LEVEL_HINT = f"levels are whole thousandths of what was spent, from 1 to {LIMITS['table.level_scale']}: 0.8 of it is 800"
+LEVEL_HINT = f"levels are shares of what was spent, as 0.95, or whole thousandths of it from 1 to {LIMITS['table.level_scale']}, as 950"
 NAME_HINT = f"a name has 1 to {LIMITS['table.name_bytes']} bytes, none of them a control character, and stands once"
 FEWER = "ask about fewer budgets"
 WIDER = "rp lists no more, and rp-wide takes them: leave wide=False out, and have it beside the program, in the library, or named by RP_WIDE"

@@ -10,7 +10,7 @@ from typing import Any, Callable, Iterable, Iterator, Sequence
 
 from . import exact
 from .catalogue import LIMITS
-from .faults import Unreadable
+from .faults import BadData, Unreadable
 from .tables import OWN_MONEY, Choices, Sheet, Table
 
 TESTS = ("garp", "afriat", "homothetic", "quasilinear")
@@ -207,6 +207,7 @@ class Verdict:
         if self.cycle:
             lines.insert(1, "cycle " + " ".join(map(str, self.cycle)))
         told = [*lines, *(f"{name}: {why}" for name, why in self.reasons.items())]
+        told += [str(self.table.offered)] if self.table.offered else []
         return with_numbers("\n".join(told if self.proved else [*told, NO_PROOF]), self.table)
 
 
@@ -275,6 +276,33 @@ class Answers(list):
         self.cycle: list[Any] | None = None
         self.proved = True
 
+    def records(self) -> list[dict[str, Any]]:
+        """Returns a dictionary for each bound of demand or welfare. `lower` and `upper` are floats to calculate with, rounded down and up,
+        and None where a bound is withheld or there is none; `lower_exact` and `upper_exact` are the Fractions."""
+        if not all(hasattr(it, "records") for it in self):
+            raise BadData("bounds of demand and of welfare have records; utilities are numbers already")
+        return [record for it in self for record in it.records()]
+
+    def frame(self) -> Any:
+        """Returns the records as a frame of pandas, which has to be there; exact numbers are texts there."""
+        try:
+            import pandas
+        except ImportError as wrong:
+            raise BadData("a frame needs the package pandas, which is not here: pip install pandas; .records() has the same without it") from wrong
+        found = self.records()
+        made = pandas.DataFrame({name: [exact.written(it) if isinstance(it := row[name], Fraction) else it for row in found] for name in found[0]})
+        return made.astype({name: "float64" for name in made.columns if name in ("lower", "upper", "inner")})
+
+
+def bounds_record(lower: Fraction | None, upper: Fraction | None) -> dict[str, Any]:
+    """Returns two bounds as floats, rounded away from what is between them, and as they are."""
+    return {
+        "lower": None if lower is None else exact.double_below(lower),
+        "upper": None if upper is None else exact.double_above(upper),
+        "lower_exact": lower,
+        "upper_exact": upper,
+    }
+
 
 class Demand:
     """Demand on a new budget. `garp` is whether the axiom holds; where it fails, no bundle keeps it and all below is None.
@@ -301,6 +329,16 @@ class Demand:
         self.label, self.prices, self.expenditure, self.garp = label, prices, expenditure, garp
         self.below, self.strict, self.inner, self.bounds, self.reasons = below, strict, inner, bounds, reasons or {}
         self.wide = list(wide)
+
+    def records(self) -> list[dict[str, Any]]:
+        """Returns a dictionary for each good: see `Answers.records`. `inner` is the one demand within the bounds, the nearest float."""
+        found = []
+        for good in self.prices:
+            lower, upper = (self.bounds or {}).get(good, (None, None))
+            inner = None if self.inner is None else exact.nearest_double(self.inner[good])
+            why = "the axiom fails" if self.bounds is None else self.reasons.get((good, "lower")) or self.reasons.get((good, "upper"))
+            found.append({"budget": self.label, "good": good, **bounds_record(lower, upper), "inner": inner, "reason": why})
+        return found
 
     def __repr__(self) -> str:
         if self.bounds is None:
@@ -330,6 +368,15 @@ class Welfare:
     ) -> None:
         self.label, self.prices, self.garp = label, prices, garp
         self.lower, self.upper, self.at, self.reasons, self.wide = lower, upper, at, reasons or {}, list(wide)
+
+    def records(self) -> list[dict[str, Any]]:
+        """Returns a dictionary for each row of the table, or one where the axiom fails: see `Answers.records`."""
+        if self.lower is None or self.upper is None or self.at is None:
+            return [{"prices": self.label, "observation": None, **bounds_record(None, None), "at": None, "reason": "the axiom fails"}]
+        return [
+            {"prices": self.label, "observation": row, **bounds_record(low, self.upper[row]), "at": self.at[row], "reason": self.reasons.get(row)}
+            for row, low in self.lower.items()
+        ]
 
     def __repr__(self) -> str:
         if self.lower is None or self.upper is None:

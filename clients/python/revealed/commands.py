@@ -26,7 +26,7 @@ Explains = Callable[[Union[str, None], str, "dict[str, int]"], Exception]
 def analyse(p: Any, q: Any = None, *, levels: Any = None, decimals: Any = None, numbers: Any = "shortest", exe: Any = None, wide: bool = True) -> Verdict:
     """Returns the Verdict on prices p and quantities q: two lists of rows, two arrays, or two frames; or on a table alone.
 
-    `levels` gives each row its level, in whole thousandths of what was spent, where the frame has no column `e`. A float
+    `levels` gives each row its level, a share of what was spent such as 0.95 or whole thousandths of it such as 950, where the frame has no column `e`. A float
     is taken as the shortest decimal that gives it back, which is the one that it was read from; one that needs more than 6 decimal
     places or 7 digits is refused, and `decimals` rounds each number to so many decimal places, half to even; two numbers are those of
     prices and of quantities. `numbers="exact"` takes a float as the binary fraction that it is. What the program withholds its wider edition is asked for; `wide=False` asks the program
@@ -43,7 +43,9 @@ def certify(p: Any, q: Any = None, *, levels: Any = None, decimals: Any = None, 
 
 
 @takes_places
-def first_contradiction(p: Any, q: Any = None, *, levels: Any = None, decimals: Any = None, numbers: Any = "shortest", exe: Any = None) -> tuple[Any, Any] | None:
+def first_contradiction(
+    p: Any, q: Any = None, *, levels: Any = None, decimals: Any = None, numbers: Any = "shortest", exe: Any = None
+) -> tuple[Any, Any] | None:
     """Returns the labels of the first two rows that contradict each other, the one weakly preferred to the other and that strictly
     to it; None where no two do. It is a quick look: longer cycles are seen by `analyse`."""
     own = table(p, q, decimals=decimals, numbers=numbers, levels=levels)
@@ -125,7 +127,9 @@ def welfare_bounds(
 
 
 @takes_places
-def afriat_utility(p: Any, q: Any = None, bundles: Any = None, *, levels: Any = None, decimals: Any = None, numbers: Any = "shortest", exe: Any = None) -> Answers:
+def afriat_utility(
+    p: Any, q: Any = None, bundles: Any = None, *, levels: Any = None, decimals: Any = None, numbers: Any = "shortest", exe: Any = None
+) -> Answers:
     """Returns the utility of each bundle under the Verdict's Afriat numbers, in their scale: money where lambda is 1."""
     own = table(p, q, decimals=decimals, numbers=numbers, levels=levels)
     sheet = _new(own, bundles, "q_", forms=forms_of(decimals, numbers))
@@ -159,9 +163,10 @@ def random_utility(
 ) -> RandomVerdict:
     """Returns the RandomVerdict on choices from budgets.
 
-    Budgets are a frame with `p_NAME` for each good and `w`, the income, or rows of prices that end with the income. Choices
-    are a frame with `budget`, `q_NAME` and `n`, or rows that begin with the budget and end with how many times. A budget is
-    its number, from 1; where the frame of budgets has `obs`, it is what stands there. `per` asks for so many units of each. Shares
+    Budgets are a frame with `p_NAME` for each good and `m`, the income (or `w`), or rows of prices that end with the income. Choices
+    are a frame with `budget`, `q_NAME` and `n`, how many times; without `n` each row is one person's choice; or rows that begin with
+    the budget and end with how many times. A budget is its number, from 1; where the frame of budgets has a column `budget` or `obs`,
+    or an index of its own, it is what stands there. `per` asks for so many units of each. Shares
     are taken as exact: what a sample leaves to chance is not looked at. Choices with more patches or types than the program lists
     its wider edition is asked about; `wide=False` asks the program alone.
     """

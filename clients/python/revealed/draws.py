@@ -80,7 +80,10 @@ class Budgets:
         """Returns the table of one behaviour, by the next words. Its units are of its own, which changes neither the axiom nor the
         index."""
         own = self.table
-        return Table(own.goods, self.prices, self.behaviour(words), list(own.labels), own_money=own.own_money)
+        drawn = Table(own.goods, self.prices, self.behaviour(words), list(own.labels))
+        # Its prices are no columns of the user, so nothing is said of the budgets that were offered.
+        drawn.own_money = own.own_money
+        return drawn
 
 
 def on_budget_lines(table: Table, seed: Any) -> Table:

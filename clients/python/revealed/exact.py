@@ -149,6 +149,11 @@ def are_plain(row: list[Any]) -> bool:
     return kinds == {str} and all(map(_PLAIN.fullmatch, row))
 
 
+def is_plain(text: str) -> bool:
+    """Whether a text is a number of digits and perhaps a point, as the program takes it."""
+    return _PLAIN.fullmatch(text) is not None
+
+
 def shown(value: Any, how: Callable[[Any], str] = str, most: int = 120) -> str:
     """Returns a value as it is told in a message: its beginning where it is long, and of a whole number that is long its size."""
     if isinstance(value, (int, Fraction)) and fault_of_length(value):
@@ -228,6 +233,17 @@ def nearest_double(number: Fraction | None) -> float:
     if near == 1 and number < 1:
         return math.nextafter(1, 0)
     return near if near or not number else math.nextafter(0, 1)
+
+
+def double_below(number: Fraction) -> float:
+    """Returns the greatest double that is no greater than a number."""
+    near = number.numerator / number.denominator
+    return math.nextafter(near, -math.inf) if Fraction(near) > number else near
+
+
+def double_above(number: Fraction) -> float:
+    """Returns the least double that is no less than a number."""
+    return -double_below(-number)
 
 
 def whole_of(text: str) -> int:

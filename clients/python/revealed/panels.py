@@ -21,8 +21,9 @@ from .commands import analyse
 from .exact import AS_THEY_ARE
 from .faults import AllRefused, BadData, NoProgram, Pooled, Refused, WrongColumns
 from .frames import Frame, near, own_labels, prices_of, values_of
+from .offered import Offered, spent
 from .long_call import BLANKS, COLUMNS, DECIDING, ID_BYTES, LONG, OF_ID, Asked, answered, in_turn, line_of
-from .tables import OWN_MONEY, Forms, Sheet, Table, forms_of, takes_places
+from .tables import OWN_MONEY, Forms, Sheet, Table, forms_of, takes_places, thousandths
 
 # Fewer households than this are asked about by this thread alone, and no more in one call.
 FEW, BLOCK = 50, 200
@@ -141,6 +142,7 @@ class Panel(list):
         self.by = list(by)
         self.asked = list(asked)
         self.numbers: str | None = None
+        self.offered: Offered | None = None
 
     def __getitem__(self, at: Any) -> Any:
         """Returns a row, or of a slice a panel of these rows."""
@@ -148,7 +150,7 @@ class Panel(list):
         if not isinstance(at, slice):
             return found
         part = Panel(self.by, found, self.asked)
-        part.numbers = self.numbers
+        part.numbers, part.offered = self.numbers, self.offered
         return part
 
     def faults(self) -> list[dict[str, Any]]:
@@ -168,7 +170,7 @@ class Panel(list):
             holds = sum(row.garp is True for row in own)
             lines.append(f"garp holds {holds:,}, violated {len(own) - holds:,}; efficiency (CCEI) mean {fmean(index):.4f}, minimum {min(index):.6f}")
         lines += [f"{it['count']:,} without verdicts: {it['fault']}, the first {it['key']!r}" for it in self.faults()]
-        return lines + ([f"numbers: {self.numbers}"] if self.numbers else [])
+        return [*lines, *([str(self.offered)] if self.offered else []), *([f"numbers: {self.numbers}"] if self.numbers else [])]
 
     def __repr__(self) -> str:
         more = len(self) - SHOWN
@@ -240,17 +242,18 @@ class Panel(list):
 
         return pictures.of_panel(self, ax, **more)
 
-    def text(self) -> str:
-        """Returns a table of the panel for a paper, as plain text."""
+    def text(self, **more: Any) -> str:
+        """Returns a table of the panel for a paper, as plain text. `units="subjects"` says what its units are called, where the column
+        that tells them apart does not, and `thresholds=("0.95", "0.90")` which shares above a level of the index it has."""
         from . import papers
 
-        return papers.text(self)
+        return papers.text(self, **more)
 
-    def latex(self) -> str:
-        """Returns a table of the panel for a paper, as LaTeX (with booktabs)."""
+    def latex(self, **more: Any) -> str:
+        """Returns the table of `text` as LaTeX (with booktabs)."""
         from . import papers
 
-        return papers.latex(self)
+        return papers.latex(self, **more)
 
 
 NO_PANDAS = "a frame needs the package pandas, which is not here: pip install pandas; .records() has the same without it, and .text() and .latex() too"
@@ -326,9 +329,10 @@ def answers(
     asked = Asked(HOUSEHOLD, (), bool(pump), None if power is None else (power, seed), wide)
     whole = LongFrame(Frame(d), names, levels, forms_of(decimals, numbers), asked, exe)
     whole.refuse_floats()
+    offered = whole.offered()
     rows = _bar(whole.answers(workers or _processors()), len(whole.households) + len(whole.unnamed), progress)
     found = Panel(names, rows, [it for it, is_asked in (("pump", pump), ("power", power is not None)) if is_asked])
-    found.numbers = whole.numbers
+    found.numbers, found.offered = whole.numbers, offered
     return found
 
 
@@ -414,6 +418,8 @@ class LongFrame(Sheet):
         if self.own_money and asked.pump:
             raise BadData(f"the money pump: {OWN_MONEY}; leave pump=True out")
         self.levels, of_levels = self._levels(levels)
+        if self.levels is not None:
+            self.levels = thousandths(self.levels)
         quantities = ["q_" + good for good in self.goods]
         self.sides = [[frame.columns[name] for name in side] for side in (price_columns, quantities)]
         columns = [column for side in self.sides for column in side] + ([] if self.levels is None else [self.levels])
@@ -447,6 +453,20 @@ class LongFrame(Sheet):
         """How numbers were taken where a float was taken for a decimal that is another number than the float; else None."""
         taken = (column for side, form in zip(self.sides, self.own_forms) if form.shortest and form.places is None for column in side)
         return exact.SHORTENED if any(exact.is_shortened(value) for column in taken for value in column) else None
+
+    def offered(self) -> Offered | None:
+        """Returns what choices spent of the offered budgets, where these are told by intercepts; raises Overspent. A row is called by its
+        label, and by its household too where there are several."""
+        if not self.own_money or not self.own:
+            return None
+        sides = [[self.number(row[at], self.forms[at + 1]) for row in self.own] for at in range(4)]
+        several = len(self.households) > 1
+        calls: list[Any] = list(self.labels)
+        for own in self.households if several else []:
+            for at in own.places:
+                calls[at] = f"{self.labels[at]} of {own.id}"
+        names = [self.told[2], self.told[1], *self.told[3:5]]
+        return spent(list(zip(sides[1], sides[0])), list(zip(sides[2], sides[3])), calls, names)
 
     def refuse_floats(self) -> None:
         """Refuses the whole panel where a float needs more decimal places or digits than are taken, and nothing rounds it."""

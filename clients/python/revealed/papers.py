@@ -4,11 +4,19 @@ from __future__ import annotations
 
 from fractions import Fraction
 from math import floor, fsum
-from typing import Any, Callable, Sequence
+from statistics import stdev
+from typing import Any, Callable, Iterable, Sequence
 
+from . import exact
+from .faults import BadData
 from .long_call import OF_ID
+from .tables import OWN_MONEY
 
-LEVELS = ("0.99", "0.95", "0.90", "0.80")
+# The thresholds of the index that a table has where no others are asked for.
+THRESHOLDS = ("0.99", "0.95", "0.90", "0.80")
+# What units are called, by the name of the column that tells them apart.
+UNITS = {"household": "households", "hh": "households", "hhid": "households", "home": "households", "subject": "subjects", "participant": "participants"}
+UNITS.update({"respondent": "respondents", "consumer": "consumers", "person": "persons", "individual": "individuals", "region": "regions", "firm": "firms"})
 
 
 def share(part: int, whole: int) -> str:
@@ -45,44 +53,79 @@ def mean(values: Sequence[Fraction]) -> str:
     return "0.9999" if text == "1.0000" and min(values) < 1 else text
 
 
+def deviation(values: Sequence[Fraction]) -> str:
+    """Returns the standard deviation of a sample to 4 places."""
+    return f"{stdev(map(float, values)):.4f}" if len(values) > 1 else "none"
+
+
 def distribution(name: str, values: Sequence[Fraction]) -> list[tuple[str, str]]:
     """Returns the lines on an index."""
     if not values:
         return [(name, "none")]
-    parts = [("least", 0), ("first quartile", 1), ("median", 2), ("third quartile", 3), ("greatest", 4)]
-    return [(f"{name}, mean", mean(values)), *((f"{name}, {what}", down(quantile(values, Fraction(part, 4)))) for what, part in parts)]
+    parts = [("minimum", 0), ("first quartile", 1), ("median", 2), ("third quartile", 3), ("maximum", 4)]
+    quantiles = [(f"{name}, {what}", down(quantile(values, Fraction(part, 4)))) for what, part in parts]
+    return [(f"{name}, mean", mean(values)), (f"{name}, standard deviation", deviation(values)), *quantiles]
 
 
-def lines_of(panel: Any) -> list[tuple[str, str]]:
-    """Returns the lines of the table: what is told, and its value. Households without verdicts are counted and left out of the
-    rest; what is withheld counts, as what may hold or not."""
+def units_of(panel: Any) -> str:
+    """Returns what the units of a panel are called: by the column that tells them apart, else units."""
+    names = [str(name).strip().lower() for name in panel.by]
+    return next((UNITS[name] for name in names if name in UNITS), "units")
+
+
+def threshold(level: Any) -> tuple[str, Fraction]:
+    """Returns a threshold as it is told, and as the number that it is; 0.95 is 95 hundredths."""
+    text = exact.text_of(level) if not isinstance(level, str) else level.strip()
+    number = exact.fraction_of(text)
+    if number is None or not 0 <= number <= 1:
+        raise BadData(f"thresholds are numbers from 0 to 1, as ('0.95', '0.90'), and not {exact.shown(level)}")
+    return text, number
+
+
+def lines_of(panel: Any, units: str | None = None, thresholds: Iterable[Any] = THRESHOLDS) -> list[tuple[str, str]]:
+    """Returns the lines of the table: what is told, and its value. Units without verdicts are counted and left out of the rest; what is
+    withheld counts, as what may hold or not."""
     rows = [row for row in panel if row.fault is None]
     unnamed = sum(row.fault in OF_ID for row in panel)
-    lines = [("households", str(len(panel) - unnamed)), ("with a verdict", str(len(rows)))]
-    lines += [("records without a household", str(unnamed))] if unnamed else []
+    lines = [(units or units_of(panel), str(len(panel) - unnamed)), ("with a verdict (N)", str(len(rows)))]
+    lines += [("records without an id", str(unnamed))] if unnamed else []
+    counts = sorted({row.observations for row in rows})
+    lines += [("observations of each", f"{counts[0]}" if len(counts) == 1 else f"{counts[0]} to {counts[-1]}")] if counts else []
     asked = [("garp", "GARP holds"), ("homothetic", "homothetic"), ("quasilinear", "quasilinear")]
-    # Where rows have money of their own, the quasilinear test is not asked, and so not withheld.
-    for name, title in asked[:2] if any(row.own_money for row in rows) else asked:
+    own_money = any(row.own_money for row in rows)
+    for name, title in asked[:2] if own_money else asked:
         lines.append((title, share_told([getattr(row, name) for row in rows])))
     index = [row.efficiency for row in rows]
-    lines += distribution("efficiency index (CCEI)", index)
-    lines += [(f"efficiency index at least {level}", share(sum(value >= Fraction(level) for value in index), len(index))) for level in LEVELS]
+    lines += distribution("CCEI", index)
+    for text, level in map(threshold, thresholds):
+        lines.append((f"CCEI of at least {text}", share(sum(value >= level for value in index), len(index))))
     if "pump" in panel.asked:
-        lines += distribution("money pump ratio, greatest", [row.pump for row in rows])
+        lines += distribution("maximum money pump", [row.pump for row in rows])
     if "power" in panel.asked:
-        lines += distribution("power of the test", [row.power for row in rows])
+        lines += distribution("power", [row.power for row in rows])
     return lines
 
 
-def text(panel: Any) -> str:
-    lines = lines_of(panel)
+def notes_of(panel: Any) -> list[str]:
+    """Returns what stands below the table: why something has no line there, and how numbers were taken."""
+    own_money = any(row.own_money for row in panel if row.fault is None)
+    return [*([ABSENT] if own_money else []), *([str(panel.offered)] if panel.offered else []), *([f"numbers: {panel.numbers}"] if panel.numbers else [])]
+
+
+ABSENT = f"quasilinear and money pump are absent: {OWN_MONEY}"
+
+
+def text(panel: Any, units: str | None = None, thresholds: Iterable[Any] = THRESHOLDS) -> str:
+    lines = lines_of(panel, units, thresholds)
     width = max(len(name) for name, _ in lines)
-    return "\n".join(f"{name.ljust(width)}  {value}" for name, value in lines) + "\n"
+    return "\n".join([*(f"{name.ljust(width)}  {value}" for name, value in lines), *notes_of(panel)]) + "\n"
 
 
-def latex(panel: Any) -> str:
-    told = [f"{escaped(name)} & {escaped(value)} \\\\" for name, value in lines_of(panel)]
-    return "\n".join(["\\begin{tabular}{lr}", "\\toprule", *told[:2], "\\midrule", *told[2:], "\\bottomrule", "\\end{tabular}"]) + "\n"
+def latex(panel: Any, units: str | None = None, thresholds: Iterable[Any] = THRESHOLDS) -> str:
+    told = [f"{escaped(name)} & {escaped(value)} \\\\" for name, value in lines_of(panel, units, thresholds)]
+    notes = [f"\\multicolumn{{2}}{{l}}{{\\footnotesize {escaped(it)}}} \\\\" for it in notes_of(panel)]
+    ruled = ["\\midrule", *notes] if notes else []
+    return "\n".join(["\\begin{tabular}{lr}", "\\toprule", *told[:2], "\\midrule", *told[2:], *ruled, "\\bottomrule", "\\end{tabular}"]) + "\n"
 
 
 def escaped(text: str) -> str:

@@ -14,6 +14,7 @@ from .exact import AS_THEY_ARE, Form
 from .faults import BadData, Refused, WrongColumns
 from .frames import Frame, is_frame, listed, near, need, no_panel, numbered, one_row, own_labels, pairs_of
 from .frames import prices_of, rows_of, starting, values_of
+from .offered import Offered, spent
 
 
 class Sheet:
@@ -185,11 +186,18 @@ class Table(Sheet):
         kinds = [PRICES] * count + [QUANTITIES] * count
         asked = [forms[0]] * count + [forms[1]] * count
         if levels is not None:
+            levels = self.levels = thousandths(levels)
             names, kinds, asked = [*names, "e"], [*kinds, LEVELS], [*asked, AS_THEY_ARE]
             rows = [[*row, level] for row, level in zip(rows, levels)]
         super().__init__("table", names, rows, labels, kinds, asked, "p_NAME and q_NAME for each good")
+        # What choices spent of the offered budgets, where these are told by intercepts; else None.
+        self.offered: Offered | None = None
         if own_money:
             self.told = [*(f"i_{good}" for good in reversed(self.goods)), *self.names[count:]]
+            # The prices are the intercepts exchanged.
+            lines = [[row[1], row[0]] for row in self.texts]
+            names = [self.told[1], self.told[0], *self.names[count : 2 * count]]
+            self.offered = spent(lines, [row[count : 2 * count] for row in self.texts], labels, names)
 
     def __len__(self) -> int:
         return len(self.rows)
@@ -217,6 +225,15 @@ class Table(Sheet):
     @property
     def quantity_scale(self) -> int:
         return self.scale("q_")
+
+
+def thousandths(levels: list[Any]) -> list[Any]:
+    """Returns levels in thousandths of what was spent. Levels of which none is above 1, and one is between 0 and 1, are shares: 0.95 is
+    950 thousandths. Others are thousandths already, and what is no whole number of them stays as it is, to be refused."""
+    shares = [exact.fraction_of(exact.shortest_of(level)) for level in levels]
+    if not all(it is not None and it <= 1 for it in shares) or not any(it is not None and 0 < it < 1 for it in shares):
+        return levels
+    return [int(it * 1000) if it is not None and (it * 1000).denominator == 1 else level for it, level in zip(shares, levels)]
 
 
 class Side:
@@ -353,10 +370,14 @@ class Choices:
     def __init__(self, budgets: Any, choices: Any, per: int | None, forms: Forms = DEFAULT) -> None:
         prices, quantities = forms
         self.per = None if per is None else program.whole(per, "per", *PER)
+        if is_frame(budgets):
+            budgets = with_income(Frame(budgets, "budgets"))
+        if is_frame(choices):
+            choices = counted(Frame(choices, "choices"))
         self.budgets = _sheet("budgets", budgets, "p_", ["w"], {"p_": (PRICES, prices), "w": (MONEY, prices)})
         others = {"q_": (QUANTITIES, quantities), "budget": (WHOLE, AS_THEY_ARE), "n": (WHOLE, AS_THEY_ARE)}
         self.choices = _sheet("choices", choices, "q_", ["budget", "n"], others)
-        if is_frame(budgets) and "obs" in Frame(budgets).columns:
+        if is_frame(budgets) and "obs" in budgets:
             self._number_budgets()
 
     def _number_budgets(self) -> None:
@@ -370,8 +391,36 @@ class Choices:
                 raise self.choices.refused("UnknownBudget", {"record": record, "column": place + 1}) from None
 
 
+def with_income(frame: Frame) -> dict[Any, list[Any]]:
+    """Returns a frame of budgets under the names of the program's file: the income is `m`, as in every call, or `w`; what the budgets are
+    called is `obs` or `budget`."""
+    found = dict(frame.columns)
+    for own, other, what in (("m", "w", "the income"), ("budget", "obs", "what budgets are called")):
+        if own in found:
+            if other in found:
+                raise BadData(f"budgets: {what} is given twice, by the columns {own!r} and {other!r}")
+            found[other] = found.pop(own)
+    if "obs" not in found and any(isinstance(label, str) for label in frame.labels):
+        found["obs"] = frame.labels
+    return found
+
+
+def counted(frame: Frame) -> dict[Any, list[Any]]:
+    """Returns a frame of choices with `n`, how many times each was made. Without that column each row is one person's choice, and rows
+    that say the same become one, which is called by the first of them."""
+    found = dict(frame.columns)
+    if "n" in found:
+        return found
+    names = [name for name in found if name == "budget" or str(name).startswith("q_")]
+    first: dict[Any, list[int]] = {}
+    for at, row in enumerate(frame.rows(names)):
+        first.setdefault(tuple(repr(it) if type(it).__hash__ is None else it for it in row), []).append(at)
+    kept = {name: [found[name][own[0]] for own in first.values()] for name in names}
+    return {**kept, "n": [len(own) for own in first.values()], "obs": [frame.labels[own[0]] for own in first.values()]}
+
+
 def _sheet(file: str, data: Any, prefix: str, others: list[str], kinds: dict[str, tuple[str, Form]]) -> Sheet:
-    wanted = f"{prefix}NAME for each good, {', '.join(others)}"
+    wanted = f"{prefix}NAME for each good, {', '.join('m' if name == 'w' else name for name in others)}"
     labels: list[Any]
     if is_frame(data):
         frame = Frame(data, file)

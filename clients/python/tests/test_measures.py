@@ -287,7 +287,7 @@ class Intercepts(unittest.TestCase):
             with self.assertRaisesRegex(BadData, "money of its own"):
                 call()
         panel = revealed.panel({**LINES, "s": [1, 1]}, "s", progress=False)
-        self.assertNotIn("quasilinear", panel.text())
+        self.assertNotRegex(panel.text(), "(?m)^quasilinear  ")
         # one way from text to verdict: what is not told of the data stands nowhere
         (row,) = panel
         self.assertIsNone(row.quasilinear)
@@ -304,6 +304,53 @@ class Intercepts(unittest.TestCase):
         with self.assertRaises(revealed.Refused) as caught:
             revealed.analyse({**LINES, "i_y": [0, 1]})
         self.assertEqual((caught.exception.name, caught.exception.fault), ("i_y", "ZeroPrice"))
+
+
+class OfferedBudgets(unittest.TestCase):
+    """Shares by hand. From x + y <= 10: (5, 5) spends all, (3, 4) 7/10, which halves of a unit do not make a whole: 3.5/9.5 + 4.5/9.5 is
+    below 1. (5, 4) spends 9/10, and 5.5/9.5 + 4.5/9.5 is not."""
+
+    def lines(self, *bundles, a=10, b=10):
+        x, y = zip(*bundles)
+        return {"i_x": [a] * len(x), "i_y": [b] * len(x), "q_x": list(x), "q_y": list(y)}
+
+    def test_shares(self):
+        made = revealed.from_frame(self.lines((5, 5), (3, 4), (5, 4)))
+        self.assertEqual((made.offered.rows, made.offered.below, made.offered.least, made.offered.at), (3, [2], Fraction(7, 10), 2))
+        self.assertEqual(str(made.offered), "offered budgets: 1 of 3 choices spent less than was offered by more than rounding; minimum share 0.7000, row 2")
+        # the same choices to a decimal place leave less to rounding
+        made = revealed.from_frame(self.lines(("5.0", "5.0"), ("3.0", "4.0"), ("5.0", "4.0")))
+        self.assertEqual(made.offered.below, [2, 3])
+        # other intercepts: 8/10 + 1/20
+        made = revealed.from_frame(self.lines(("8.00", "1.00"), a="10.00", b="20.00"))
+        self.assertEqual((made.offered.below, made.offered.least), ([1], Fraction(17, 20)))
+        self.assertIsNone(revealed.from_frame({"p_a": [1], "q_a": [1]}).offered)
+
+    def test_what_costs_more_than_was_offered(self):
+        with self.assertRaises(revealed.Overspent) as caught:
+            revealed.analyse(self.lines((5, 5), (9, 9)))
+        self.assertEqual((caught.exception.label, caught.exception.share, caught.exception.count), (2, Fraction(9, 5), 1))
+        self.assertIn("row 2 (i_x 10, i_y 10, q_x 9, q_y 9): the choice costs 1.8000 of the offered budget", str(caught.exception))
+        # within rounding: (5.5, 5.5) may be 5 and 5 to the unit, and is not to a tenth
+        self.assertEqual(revealed.from_frame(self.lines((5, 6))).offered.below, [])
+        with self.assertRaises(revealed.Overspent):
+            revealed.from_frame(self.lines(("5.0", "6.0")))
+        d = self.lines((5, 5), (9, 9), (9, 8))
+        with self.assertRaises(revealed.Overspent) as caught:
+            revealed.panel({**d, "s": ["u", "u", "v"]}, "s", progress=False)
+        self.assertIn("2 of u", str(caught.exception))
+        self.assertIn("1 other choice does too", str(caught.exception))
+
+    def test_it_is_told_once(self):
+        verdict = revealed.analyse(LINES)
+        self.assertEqual(repr(verdict).count("offered budgets: all 2 choices lie on their lines, within rounding"), 1)
+        panel = revealed.panel({**LINES, "s": [1, 1]}, "s", progress=False)
+        self.assertEqual(repr(panel).count("offered budgets"), 1)
+        self.assertIn("offered budgets", panel.text())
+        # what is no number, or no line, is refused by the program
+        for bad in ({"i_y": [0, 1]}, {"i_y": ["x", 1]}):
+            with self.assertRaises(revealed.Refused):
+                revealed.analyse({**LINES, **bad})
 
 
 if __name__ == "__main__":

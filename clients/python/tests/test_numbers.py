@@ -5,7 +5,7 @@ import unittest
 from decimal import Decimal
 from fractions import Fraction
 
-from revealed import BadData, MenuChoices, Pooled, Refused, WrongColumns, advice, exact, from_frame, power_of_test, table
+from revealed import BadData, Choices, MenuChoices, Pooled, Refused, WrongColumns, advice, exact, from_frame, power_of_test, table
 
 try:
     import numpy
@@ -149,6 +149,30 @@ class Numbers(unittest.TestCase):
         for number in (0, 7, -7, 10**4000, 10**4000 - 1, 3**20000, -(7**9000)):
             self.assertEqual(exact.whole_of(exact.written(number)), number)
         self.assertEqual(exact.fraction_read(exact.written(Fraction(3**20000, 2**20000))), Fraction(3**20000, 2**20000))
+
+
+class Microdata(unittest.TestCase):
+    BUDGETS = {"budget": ["north", "south"], "p_a": [1, 2], "p_b": [2, 1], "m": [4, 4]}
+
+    def test_a_row_for_each_person(self):
+        people = {"budget": ["north", "south", "north", "north"], "q_a": [2, 1, 2, 0], "q_b": [1, 2, 1.0, 2]}
+        made = Choices(self.BUDGETS, people, None)
+        self.assertEqual(made.budgets.csv(), b"p_a,p_b,w\n1,2,4\n2,1,4\n")
+        self.assertEqual(made.choices.csv(), b"q_a,q_b,budget,n\n2,1,1,2\n1,2,2,1\n0,2,1,1\n")
+        # a refusal is told by the first row that says so
+        self.assertEqual(made.choices.labels, [1, 2, 4])
+        with self.assertRaises(Refused) as caught:
+            Choices(self.BUDGETS, {**people, "budget": ["north", "south", "north", "west"]}, None)
+        self.assertEqual((caught.exception.fault, caught.exception.label), ("UnknownBudget", 4))
+
+    def test_the_older_names(self):
+        old = {"obs": ["north", "south"], "p_a": [1, 2], "p_b": [2, 1], "w": [4, 4]}
+        choices = {"budget": ["south", "north"], "q_a": [1, 2], "q_b": [2, 1], "n": [3, 4]}
+        first, second = Choices(old, choices, None), Choices(self.BUDGETS, choices, None)
+        self.assertEqual((first.budgets.csv(), first.choices.csv()), (second.budgets.csv(), second.choices.csv()))
+        for both in ({**old, "m": [4, 4]}, {**old, "budget": [1, 2]}):
+            with self.assertRaises(BadData):
+                Choices(both, choices, None)
 
 
 class Tables(unittest.TestCase):

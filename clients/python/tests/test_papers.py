@@ -41,22 +41,45 @@ class Texts(unittest.TestCase):
     def test_a_table(self):
         text = made(pump=True, power=10).text()
         for line in (
-            "households +3",
-            "with a verdict +2",
+            "units +3",
+            r"with a verdict \(N\) +2",
+            "observations of each +2",
             r"GARP holds +1 of 2 \(50\.0%\)",
-            r"efficiency index \(CCEI\), mean +0\.9000",
-            r"efficiency index at least 0\.80 +2 of 2",
-            r"money pump ratio, greatest, greatest +0\.2000",
+            r"CCEI, mean +0\.9000",
+            # of 4/5 and 1 the sample's standard deviation is a fifth over the root of 2
+            r"CCEI, standard deviation +0\.1414",
+            r"CCEI of at least 0\.80 +2 of 2",
+            r"maximum money pump, maximum +0\.2000",
         ):
             self.assertRegex(text, f"(?m)^({line})")
         self.assertEqual(len({len(line.rstrip()) > 0 for line in text.splitlines()}), 1)
 
     def test_latex(self):
         text = made().latex()
-        self.assertTrue(text.startswith("\\begin{tabular}{lr}\n\\toprule\nhouseholds & 3 \\\\\n"))
+        self.assertTrue(text.startswith("\\begin{tabular}{lr}\n\\toprule\nunits & 3 \\\\\n"))
         self.assertIn("1 of 2 (50.0\\%)", text)
         self.assertTrue(text.endswith("\\bottomrule\n\\end{tabular}\n"))
         self.assertEqual(papers.escaped("a_b & 5% $x$ {~^\\}#"), "a\\_b \\& 5\\% \\$x\\$ \\{\\textasciitilde{}\\textasciicircum{}\\textbackslash{}\\}\\#")
+
+    def test_units_and_thresholds_are_the_users(self):
+        d = {"subject": D["id"], **{name: column for name, column in D.items() if name != "id"}}
+        text = revealed.panel(d, "subject", progress=False).text(thresholds=[0.85, "1"])
+        self.assertRegex(text, "^subjects +3\n")
+        self.assertRegex(text, r"(?m)^CCEI of at least 0\.85 +1 of 2 \(50\.0%\)$")
+        self.assertRegex(text, r"(?m)^CCEI of at least 1 +1 of 2 \(50\.0%\)$")
+        self.assertNotIn("0.99", text)
+        self.assertTrue(made().text(units="villages").startswith("villages"))
+        for bad in (["x"], [2], [-0.1]):
+            with self.assertRaises(BadData):
+                made().text(thresholds=bad)
+
+    def test_what_is_absent_is_said(self):
+        lines = {"s": [1, 1], "i_x": ["87.13", "45.50"], "i_y": [33.61, 62.04], "q_x": ["43.2", "20.1"], "q_y": ["16.95", "34.63"]}
+        found = revealed.panel(lines, "s", progress=False)
+        for said in (found.text(), found.latex()):
+            self.assertIn("quasilinear and money pump are absent: intercepts exchanged give each row money of its own", said)
+            self.assertIn("numbers: shortest decimals of doubles", said)
+        self.assertNotIn("absent", made().text())
 
     def test_shares_count_what_is_withheld(self):
         said = papers.share_told([True] * 8 + [None] * 9 + [False] * 33)

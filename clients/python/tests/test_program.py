@@ -13,7 +13,7 @@ from decimal import Decimal
 from fractions import Fraction
 
 import revealed
-from revealed import Failed, NoProgram, Problem, Refused
+from revealed import BadData, Failed, NoProgram, Problem, Refused
 
 HERE = pathlib.Path(__file__).resolve().parent
 EXAMPLES = HERE.parents[2] / "examples"
@@ -436,6 +436,39 @@ class Programs(unittest.TestCase):
                 ran = subprocess.run([sys.executable, "-c", code.format(Q)], env={**os.environ, **where}, cwd=own, capture_output=True)
                 self.assertEqual((ran.stdout, ran.stderr), (b"False True\n", b""), locale)
                 self.assertEqual(sorted(os.listdir(own)), [b"rp"])
+
+
+class Bounds(unittest.TestCase):
+    """At the prices 1, 1 and the expenditure 3 of the contradiction-free pair: bounds as floats beside the exact ones."""
+
+    def test_records_and_frames(self):
+        found = revealed.demand([[1, 2], [2, 1]], [[2, 1], [1, 2]], [[1, 1], [1, 3]], 3)
+        records = found.records()
+        self.assertEqual([(it["budget"], it["good"]) for it in records], [(1, "1"), (1, "2"), (2, "1"), (2, "2")])
+        for it in records:
+            self.assertIsInstance(it["lower"], float)
+            self.assertLessEqual(Fraction(it["lower"]), it["lower_exact"])
+            self.assertGreaterEqual(Fraction(it["upper"]), it["upper_exact"])
+            self.assertLessEqual(it["lower"], it["inner"])
+        welfare = revealed.welfare([[1, 2], [2, 1]], [[2, 1], [1, 2]], [1, 1]).records()
+        self.assertEqual([(it["observation"], it["upper_exact"]) for it in welfare], [(1, 3), (2, 3)])
+        # where the axiom fails there are no bounds
+        (none, *_) = revealed.demand(P, [[1, 2], [2, 1]], [1, 1], 3).records()
+        self.assertEqual((none["lower"], none["upper_exact"], none["reason"]), (None, None, "the axiom fails"))
+        with self.assertRaises(BadData):
+            revealed.utility([[1, 2], [2, 1]], [[2, 1], [1, 2]], [1, 1]).records()
+
+    @unittest.skipIf(pandas is None, "pandas is not there")
+    def test_frames(self):
+        frame = revealed.demand([[1, 2], [2, 1]], [[2, 1], [1, 2]], [[1, 1], [1, 3]], 3).frame()
+        self.assertEqual((len(frame), str(frame.dtypes["lower"]), str(frame.dtypes["upper"])), (4, "float64", "float64"))
+        self.assertTrue((frame["lower"] <= frame["upper"]).all())
+
+    def test_rounded_away_from_what_is_between(self):
+        third = Fraction(1, 3)
+        low, high = revealed.exact.double_below(third), revealed.exact.double_above(third)
+        self.assertTrue(Fraction(low) < third < Fraction(high))
+        self.assertEqual((revealed.exact.double_below(Fraction(1, 2)), revealed.exact.double_above(Fraction(1, 2))), (0.5, 0.5))
 
 
 if __name__ == "__main__":

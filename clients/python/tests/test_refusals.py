@@ -205,11 +205,26 @@ class Levels(unittest.TestCase):
             self.assertIn("leave pump and power out", caught.exception.hint)
 
     def test_levels_that_are_none(self):
-        for levels, fault in [([0.8, 1], "BadNumber"), ([800.5, 1], "BadNumber"), ([0, 1], "BadLevel"), ([1001, 1], "BadLevel"), ([None, 1], "BadNumber")]:
+        for levels, fault in [
+            ([0.8005, 1], "BadNumber"),
+            ([800.5, 1], "BadNumber"),
+            ([0.8, 900], "BadNumber"),
+            ([0, 1], "BadLevel"),
+            ([1001, 1], "BadLevel"),
+            ([None, 1], "BadNumber"),
+        ]:
             with self.assertRaises(Refused) as caught:
                 revealed.analyse(P, Q, levels=levels)
             self.assertEqual((caught.exception.fault, caught.exception.name, caught.exception.record), (fault, "e", 1))
             self.assertIn("whole thousandths", caught.exception.hint)
+
+    def test_levels_are_shares_too(self):
+        for levels in ([0.799, 1], ["0.799", 1.0], [799, 1000]):
+            self.assertEqual(revealed.table(P, Q, levels=levels).csv(), revealed.table(P, Q, levels=LEVELS).csv())
+        self.assertEqual(revealed.table(P, Q, levels=0.95).csv(), revealed.table(P, Q, levels=950).csv())
+        self.assertEqual(revealed.from_frame({"p_a": [1, 1], "q_a": [1, 2], "e": [0.8, 1.0]}).levels, [800, 1000])
+        d = {"id": [1, 1], "p_a": [1, 2], "p_b": [2, 1], "q_a": [1, 2], "q_b": [2, 1]}
+        self.assertEqual([row.garp for row in revealed.panel(d, "id", levels=0.799, progress=False)], [True])
 
 
 class Households(unittest.TestCase):
@@ -243,7 +258,7 @@ class Columns(unittest.TestCase):
             (lambda: revealed.demand(P, Q, {"p_1": 1}, 3), "p_1, p_2, m"),
             (lambda: revealed.welfare(P, Q, {"p_1": 1, "p_3": 2}), "p_1, p_2"),
             (lambda: revealed.utility(P, Q, {"q_1": 1}), "q_1, q_2"),
-            (lambda: revealed.random({"p_a": [1]}, CHOICES), "p_NAME for each good, w"),
+            (lambda: revealed.random({"p_a": [1]}, CHOICES), "p_NAME for each good, m"),
             (lambda: revealed.random(BUDGETS, {"q_a": [1], "n": [1]}), "q_NAME for each good, budget, n"),
             (lambda: revealed.random({**BUDGETS, "obs": ["u", "v"]}, {"q_a": [1], "n": [1]}), "q_NAME for each good, budget, n"),
             (lambda: revealed.menus({"menu": ["a"], "choice": ["a"]}), "menu, choice, n"),

@@ -8,6 +8,8 @@ rp_random_panel <- function(panel, times = NULL, seed = 1, workers = NULL, progr
   # A thousand behaviours, or a few more, where nothing is said.
   times <- if (is.null(times)) ceiling(1000 / length(own)) else as.integer(whole_word(times, "times", "1", "1000000"))
   drawn <- drawn_data(panel, own, times, seed_of(seed))
+  # What is drawn has units of its own, so nothing is said of the budgets that were offered.
+  attr(drawn, "rp_drawn") <- TRUE
   rp_panel(drawn, c(inside(panel)$id, "draw"), ask = inside(panel)$ask, workers = workers, progress = progress, exe = exe)
 }
 
@@ -110,9 +112,11 @@ behaviour <- function(budgets) {
 # ---- tables
 
 rp_panel_table <- function(panel, random = NULL, what = c("summary", "households"), format = c("text", "latex"),
-                           digits = 3, names = c("Households", "Random"),
-                           tests = c("garp", "homothetic", "quasilinear")) {
+                           digits = 3, names = c(unit_names(panel), "Random"),
+                           tests = c("garp", "homothetic", "quasilinear"), thresholds = c(0.90, 0.95, 0.99)) {
   if (!inherits(panel, "rp_panel")) bad_data("a table is made of what rp_panel gives")
+  thresholds <- number_texts(thresholds, list(shortest = TRUE))
+  if (!all(grepl("^(0([.][0-9]+)?|1([.]0+)?)$", thresholds))) bad_data("thresholds are numbers from 0 to 1, as c(0.90, 0.95)")
   if (!is.null(random) && (!inherits(random, "rp_panel") || inside(random)$ask != inside(panel)$ask)) {
     bad_data("random is a panel of the same kind, as rp_random_panel makes it")
   }
@@ -121,12 +125,14 @@ rp_panel_table <- function(panel, random = NULL, what = c("summary", "households
   if (!is.character(tests) || !length(tests) || !all(tests %in% c("garp", "homothetic", "quasilinear"))) {
     bad_data("tests are some of 'garp', 'homothetic', 'quasilinear'")
   }
+  asked <- tests
   tests <- intersect(tests, tests_of(inside(panel)$own_money))
+  notes <- c(if (!setequal(asked, tests)) paste("quasilinear and money pump are absent:", own_money), offered_line(inside(panel)$offered), inside(panel)$numbers)
   cells <- if (what == "households") household_cells(panel, digits, tests) else {
-    sides <- lapply(c(list(panel), if (!is.null(random)) list(random)), summary_cells, digits = digits, tests = tests)
+    sides <- lapply(c(list(panel), if (!is.null(random)) list(random)), summary_cells, digits = digits, tests = tests, thresholds = thresholds)
     named(c(list(names(sides[[1]])), lapply(sides, unname)), c("", names[seq_along(sides)]))
   }
-  lines <- if (chosen(format, c("text", "latex"), "format") == "text") text_lines(cells) else latex_lines(cells)
+  lines <- if (chosen(format, c("text", "latex"), "format") == "text") c(text_lines(cells), notes) else latex_lines(cells, notes)
   structure(lines, class = "rp_lines")
 }
 
@@ -149,31 +155,32 @@ share_told <- function(is) {
 }
 
 # Returns what a paper tells of a panel, by what it is called.
-summary_cells <- function(panel, digits, tests) {
+summary_cells <- function(panel, digits, tests, thresholds) {
   frame <- as.data.frame(panel)
   own <- frame[answered(panel), ]
   count <- nrow(own)
-  common <- c("Number" = count, "Without an answer" = nrow(frame) - count)
+  counts <- if (count) range(own$observations)
+  common <- c("N" = count, "Without an answer" = nrow(frame) - count, "Observations of each" = paste(unique(counts), collapse = " to "))
   index <- function(x, word) {
     number <- as.double(x)
     found <- if (count) {
       some <- stats::quantile(number, c(0.25, 0.5, 0.75), names = FALSE)
       ends <- c(sort(x)[1], sort(x, decreasing = TRUE)[1])
-      c(shown_index(mean(number), digits), shown_index(ends[1], digits), shown_index(some, digits), shown_index(ends[2], digits))
+      deviation <- if (count > 1) sprintf("%.*f", digits, stats::sd(number)) else "none"
+      c(shown_index(mean(number), digits), deviation, shown_index(ends[1], digits), shown_index(some, digits), shown_index(ends[2], digits))
     } else {
-      rep("", 6)
+      rep("", 7)
     }
-    named(found, paste0(word, ", ", c("mean", "least", "first quartile", "median", "third quartile", "greatest")))
+    named(found, paste0(word, ", ", c("mean", "standard deviation", "minimum", "first quartile", "median", "third quartile", "maximum")))
   }
   switch(inside(panel)$ask,
     test = c(
       common, "GARP holds" = share_told(own$garp), index(own$efficiency_exact, "CCEI"),
-      "CCEI of at least 0.90" = share_told(own$efficiency_exact >= exact("9/10")), "CCEI of at least 0.95" = share_told(own$efficiency_exact >= exact("19/20")),
-      "CCEI of at least 0.99" = share_told(own$efficiency_exact >= exact("99/100")),
+      named(vapply(thresholds, function(it) share_told(own$efficiency_exact >= exact(it)), ""), paste("CCEI of at least", sub("^(0[.][0-9])$", "\\10", thresholds))),
       if ("homothetic" %in% tests) c("Homothetic holds" = share_told(own$homothetic)),
       if ("quasilinear" %in% tests) c("Quasilinear holds" = share_told(own$quasilinear))
     ),
-    pump = c(common, "GARP holds" = share_told(own$garp), index(own$pump_exact, "Money pump")),
+    pump = c(common, "GARP holds" = share_told(own$garp), index(own$pump_exact, "Maximum money pump")),
     power = c(common, index(own$power_exact, "Power"))
   )
 }
@@ -210,12 +217,23 @@ text_lines <- function(cells) {
   c(lines[1], strrep("-", max(nchar(lines))), lines[-1])
 }
 
-latex_lines <- function(cells) {
+# Returns what the units of a panel are called, by the column that tells them apart.
+unit_names <- function(panel) {
+  known <- c(
+    household = "Households", hh = "Households", hhid = "Households", home = "Households", subject = "Subjects", participant = "Participants",
+    respondent = "Respondents", consumer = "Consumers", person = "Persons", individual = "Individuals", region = "Regions", firm = "Firms"
+  )
+  found <- known[tolower(inside(panel)$id)]
+  c(found[!is.na(found)], "Units")[[1]]
+}
+
+latex_lines <- function(cells, notes = NULL) {
   row <- function(at) paste0(paste(vapply(cells, function(it) latex_text(it[at]), ""), collapse = " & "), " \\\\")
   c(
     paste0("\\begin{tabular}{l", strrep("r", length(cells) - 1), "}"), "\\hline",
     paste0(paste(latex_text(names(cells)), collapse = " & "), " \\\\"), "\\hline",
-    vapply(seq_along(cells[[1]]), row, ""), "\\hline", "\\end{tabular}"
+    vapply(seq_along(cells[[1]]), row, ""), "\\hline",
+    sprintf("\\multicolumn{%d}{l}{\\footnotesize %s} \\\\", length(cells), latex_text(notes)), "\\end{tabular}"
   )
 }
 

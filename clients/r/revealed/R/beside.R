@@ -59,6 +59,8 @@ one_row <- function(new, what) {
 # Returns the sheets of budgets and of choices from them.
 choices_of <- function(budgets, choices, per, forms) {
   if (inherits(budgets, "rp_choices")) return(budgets)
+  if (is.data.frame(budgets)) budgets <- with_income(budgets)
+  if (is.data.frame(choices)) choices <- counted_choices(choices)
   first <- loose_sheet("budgets", budgets, "p_", "price", character(), c(w = "money"), forms)
   labels <- if (is.data.frame(budgets) && "obs" %in% names(budgets)) first$labels
   second <- loose_sheet("choices", choices, "q_", "quantity", c(budget = ""), c(n = ""), forms)
@@ -68,6 +70,31 @@ choices_of <- function(budgets, choices, per, forms) {
   if (!setequal(goods, theirs)) bad_data("budgets are of the goods ", listed(goods), ", and choices of ", listed(theirs))
   second$header[startsWith(second$header, "q_")] <- sprintf("q_%d", match(theirs, goods))
   structure(list(budgets = first, choices = second, per = per_word(per)), class = "rp_choices")
+}
+
+# Returns a frame of budgets under the names of the program's file: the income is `m`, as in every call, or `w`; what the budgets are
+# called is `obs` or `budget`.
+with_income <- function(budgets) {
+  for (it in list(c("m", "w", "the income"), c("budget", "obs", "what budgets are called"))) {
+    if (!it[1] %in% names(budgets)) next
+    if (it[2] %in% names(budgets)) bad_data("budgets: ", it[3], " is given twice, by the columns ", quoted(it[1]), " and ", quoted(it[2]))
+    names(budgets)[names(budgets) == it[1]] <- it[2]
+  }
+  budgets
+}
+
+# Returns a frame of choices with `n`, how many times each was made. Without that column each row is one person's choice, and rows that say
+# the same become one, which is called by the first of them.
+counted_choices <- function(choices) {
+  if ("n" %in% names(choices)) return(choices)
+  own <- choices[names(choices) == "budget" | startsWith(names(choices), "q_")]
+  if (!"budget" %in% names(own) || length(own) < 2) return(choices)
+  key <- do.call(paste, c(lapply(unname(as.list(own)), function(it) if (is.double(it)) format(it, digits = 17) else as.character(it)), sep = "\r"))
+  first <- which(!duplicated(key))
+  found <- own[first, , drop = FALSE]
+  found$n <- as.vector(table(factor(key, key[first])))
+  found$obs <- frame_labels(choices)[first]
+  found
 }
 
 per_word <- function(per) if (!is.null(per)) word_within(per, "per", "random", "--per")
@@ -85,11 +112,11 @@ by_budget <- function(choices, labels) {
 # with those of `after`.
 loose_sheet <- function(file, data, prefix, kind, before, after, forms) {
   others <- c(before, after)
-  wanted <- paste0(file, " have a column ", prefix, "NAME for each good NAME, and ", paste(names(others), collapse = " and "))
+  wanted <- paste0(file, " have a column ", prefix, "NAME for each good NAME, and ", paste(sub("^w$", "m", names(others)), collapse = " and "))
   if (is.data.frame(data)) {
     own <- starting(names(data), prefix)
     missing <- setdiff(names(others), names(data))
-    if (length(missing)) bad_data(file, ": there is no column ", quoted(missing[1]), "; ", wanted, "; found: ", listed(names(data)))
+    if (length(missing)) bad_data(file, ": there is no column ", quoted(sub("^w$", "m", missing[1])), "; ", wanted, "; found: ", listed(names(data)))
     if (!length(own)) bad_data(wanted, "; found: ", listed(names(data)))
     if ("e" %in% names(data)) bad_data(file, ": a column e of levels belongs to a table of prices and purchases, and not here")
     names <- c(own, names(others))

@@ -54,7 +54,7 @@ hints <- function() {
     TooFine = "it has more places than the table's quantities have: write it with fewer",
     UnknownBudget = "budgets are numbered from 1 in their order",
     NoChoices = "nothing was chosen on this budget: leave the budget out, or add its choices",
-    BadLevel = paste0("a level is a whole number of thousandths from 1 to ", limit_text("table.level_scale"), ": 950 is 0.95"),
+    BadLevel = paste0("a level is a share of what was spent, as 0.95, or whole thousandths of it from 1 to ", limit_text("table.level_scale"), ", as 950"),
     BadMenu = paste("a menu is one to", limit_text("menu.letters"), "letters from a on, each after the one before it, without blanks"),
     BadChoice = "the letter that was chosen is one of its menu",
     NoMenus = "every n is 0, so nothing was chosen",

@@ -67,6 +67,11 @@ long_sheet <- function(data, id, sides, forms) {
   whole$fit <- once(function() fit_of(whole))
   refuse_doubles(whole, data)
   cells <- lapply(seq_along(columns), function(at) cells_of(columns[[at]], if (nzchar(kinds[at])) of_kind[[kinds[at]]]))
+  if (isTRUE(sides$own_money) && !isTRUE(sides$is_drawn)) {
+    several <- length(unique(ids[taken])) > 1
+    calls <- if (several) paste(whole$labels, "of", ids) else whole$labels
+    whole$offered <- offered_of(cells[2:1], cells[3:4], calls, c(whole$names[3:2], whole$names[4:5]))
+  }
   c(whole, list(cells = cells, ids = vapply(rows, function(at) ids[at[1]], ""), rows = rows, is_named = rep(c(TRUE, FALSE), c(length(rows) - sum(!taken), sum(!taken)))))
 }
 

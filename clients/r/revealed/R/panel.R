@@ -4,11 +4,12 @@
 rp_panel <- function(data, id, ask = c("test", "pump", "power"), decimals = digits, levels = NULL, seed = NULL, draws = 1000, workers = NULL,
                      numbers = "shortest", progress = interactive(), exe = NULL, wide = TRUE, digits = NULL) {
   kind <- chosen(ask, c("test", "pump", "power"), "ask")
+  is_drawn <- isTRUE(attr(data, "rp_drawn", exact = TRUE))
   data <- plain_frame(data)
   if (!is_switch(progress)) bad_data("progress is TRUE or FALSE")
   if (!is_switch(wide)) bad_data("wide is TRUE or FALSE")
   workers <- if (is.null(workers)) processors() else as.integer(whole_word(workers, "workers", "1", "4096"))
-  sides <- panel_sides(data, id, levels)
+  sides <- c(panel_sides(data, id, levels), is_drawn = is_drawn)
   forms <- forms_of(decimals, numbers)
   if (kind == "power" && is.null(seed)) bad_data("there is no seed: give the argument seed, a whole number")
   if (kind != "test" && !is.null(sides$levels)) {
@@ -33,7 +34,7 @@ rp_panel <- function(data, id, ask = c("test", "pump", "power"), decimals = digi
   stop_where_all_are_refused(texts[, "fault"], refusal, keys)
   own <- list2env(list(
     keys = keys, texts = with_places(texts, long, data), ask = kind, data = data, id = id, forms = forms, levels = sides$levels,
-    own_money = sides$own_money, places = long$rows, sides = sides, numbers = numbers_line(long)
+    own_money = sides$own_money, places = long$rows, sides = sides, offered = long$offered, numbers = numbers_line(long)
   ))
   # Why households have no verdicts is put into words where it is looked at.
   delayedAssign("refusals", lapply(seq_along(long$rows), refusal), assign.env = own)
@@ -84,7 +85,10 @@ panel_sides <- function(data, id, levels = NULL) {
     if (!is.null(sides$levels)) bad_data("levels are given twice: by the column e and by the argument")
     sides$levels <- levels_for(levels, nrow(data))
   }
-  if (!is.null(sides$levels)) warn_of_levels(number_texts(sides$levels))
+  if (!is.null(sides$levels)) {
+    sides$levels <- thousandths(sides$levels)
+    warn_of_levels(number_texts(sides$levels))
+  }
   sides
 }
 
@@ -95,7 +99,7 @@ table_in <- function(panel, at) {
   sides <- panel$sides
   part <- list(
     goods = sides$goods, prices = lapply(sides$prices, `[`, rows), quantities = lapply(sides$quantities, `[`, rows),
-    labels = sides$labels[rows], levels = if (!is.null(sides$levels)) sides$levels[rows], left_out = sides$left_out, own_money = sides$own_money
+    labels = sides$labels[rows], levels = if (!is.null(sides$levels)) sides$levels[rows], left_out = sides$left_out, own_money = sides$own_money, is_drawn = sides$is_drawn
   )
   suppressWarnings(table_of_sides(part, panel$forms, id_advice(panel$id)))
 }
@@ -165,7 +169,7 @@ as.data.frame.rp_panel <- function(x, row.names = NULL, optional = FALSE, ...) {
 # Columns come first. What is known beside them is `keys`, `texts` and `refusals`.
 `$.rp_panel` <- function(x, name) {
   column <- unclass(x)[[name, exact = TRUE]]
-  if (!is.null(column) || !name %in% c("keys", "texts", "refusals", "places", "data", "numbers")) column else inside(x)[[name]]
+  if (!is.null(column) || !name %in% c("keys", "texts", "refusals", "places", "data", "offered", "numbers")) column else inside(x)[[name]]
 }
 
 # Returns what is said of a panel as a whole, in a few lines.
@@ -187,6 +191,7 @@ panel_lines <- function(x) {
     },
     sprintf("%s without verdicts: %s, the first %s", count(as.vector(causes)), names(causes), first),
     if (inside(x)$own_money) paste0("quasilinear: ", own_money),
+    offered_line(inside(x)$offered),
     inside(x)$numbers
   )
 }

@@ -14,6 +14,7 @@ table_of <- function(p, q = NULL, forms = NULL, levels = NULL) {
 table_of_sides <- function(sides, forms, advice = id_advice(NULL)) {
   numbers <- seq_along(sides$goods)
   has_levels <- !is.null(sides$levels)
+  if (has_levels) sides$levels <- thousandths(sides$levels)
   labels <- row_labels(sides$labels, apart = TRUE, advice)
   found <- sheet(
     "table", c(sprintf("p_%d", numbers), sprintf("q_%d", numbers), "e"[has_levels]),
@@ -26,6 +27,10 @@ table_of_sides <- function(sides, forms, advice = id_advice(NULL)) {
   warn_of_levels(found$levels)
   found$left_out <- sides$left_out
   found$own_money <- isTRUE(sides$own_money)
+  # The prices are the intercepts exchanged.
+  if (found$own_money && !isTRUE(sides$is_drawn)) {
+    found$offered <- offered_of(found$texts[2:1], found$texts[3:4], labels, c(found$names[2:1], found$names[3:4]))
+  }
   structure(found, class = "rp_table")
 }
 
@@ -36,13 +41,23 @@ warn_of_levels <- function(texts) {
   warning(structure(class = c("rp_warning", "warning", "condition"), list(message = message, call = NULL)))
 }
 
+# Returns levels in thousandths of what was spent. Levels of which none is above 1, and one is between 0 and 1, are shares: 0.95 is 950
+# thousandths. Others are thousandths already, and what is no whole number of them stays as it is, to be refused.
+thousandths <- function(levels) {
+  texts <- tryCatch(number_texts(levels, list(shortest = TRUE)), rp_too_long = function(it) "")
+  if (!all(grepl(plain, texts, useBytes = TRUE))) return(levels)
+  shares <- as.numeric(texts)
+  if (any(shares > 1) || !any(shares > 0 & shares < 1)) return(levels)
+  ifelse(nchar(places_in(texts)) <= 3, sprintf("%.0f", shares * 1000), texts)
+}
+
 id_advice <- function(id) {
   if (is.null(id)) return("say rp_panel(data, id = ..) with the column that tells the households apart, or give each row a label of its own")
   paste0("id = ", paste(quoted(id), collapse = ", "), " does not tell the households apart; name every column that does")
 }
 
 levels_for <- function(levels, count) {
-  if (!length(levels) %in% c(1, count)) bad_data("levels: one number, or one for each of the ", count, " rows, in thousandths from 1 to 1000")
+  if (!length(levels) %in% c(1, count)) bad_data("levels: one number, or one for each of the ", count, " rows, shares such as 0.95, or thousandths from 1 to 1000")
   rep(levels, length.out = count)
 }
 

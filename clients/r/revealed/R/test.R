@@ -125,6 +125,7 @@ table_lines <- function(table) {
     paste("observations", length(table$labels), "goods", length(table$goods)),
     if (!is.null(table$levels)) paste(c("levels", table$levels), collapse = " "),
     if (length(table$left_out)) paste("columns left out:", listed(table$left_out)),
+    offered_line(table$offered),
     numbers_line(table)
   )
 }

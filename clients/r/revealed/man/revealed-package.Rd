@@ -24,10 +24,15 @@ for an index of 1 alone, and lower bounds are rounded down, upper ones up.
 Of two goods a data frame may have \code{i_NAME} in place of \code{p_NAME}, the intercept of each good. They are exchanged, so that
 nothing is rounded: times both intercepts, a price of 1 over an intercept is the intercept of the other good. Each row has money of
 its own then: \code{\link{rp_pump}} refuses the table, and \code{quasilinear} is \code{NA}, with the reason.
+
+The verdicts are about the chosen bundles and what these cost. Beside them the printed answer says which share of the offered budget each
+choice spent: how many choices spent less than was offered by more than rounding to the decimal places of the columns explains, and
+the least share. A choice that costs more than was offered by more than rounding is an error (\code{rp_overspent}), with its row and the
+amounts.
 }
 \section{Levels}{
-A column \code{e} of a data frame, or the argument \code{levels}, gives each observation a level of its own, in whole
-thousandths from 1 to 1000: how much of what was spent there counts (Varian 1990). \code{\link{rp_test}},
+A column \code{e} of a data frame, or the argument \code{levels}, gives each observation a level of its own, a share
+such as 0.95 or whole thousandths from 1 to 1000: how much of what was spent there counts (Varian 1990). \code{\link{rp_test}},
 \code{\link{rp_pairs}}, \code{\link{rp_utility}}, \code{\link{rp_check}} and \code{\link{rp_panel}} take them; the other calls
 refuse a table that has them (\code{OwnLevels}), because what they answer is not defined with levels.
 }

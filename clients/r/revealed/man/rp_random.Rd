@@ -19,11 +19,11 @@ rp_random_utility(budgets, choices, per = NULL, decimals = digits,
   what = c("types", "patches"), ...)
 }
 \arguments{
-\item{budgets}{a data frame with \code{p_NAME} for each good and \code{w}, the income; or a matrix of prices that ends with
+\item{budgets}{a data frame with \code{p_NAME} for each good and \code{m}, the income (or \code{w}); or a matrix of prices that ends with
 the income.}
-\item{choices}{a data frame with \code{budget}, \code{q_NAME} for each good, and \code{n}, how many times this was chosen; or
-a matrix that begins with the budget and ends with how many times. A budget is its number from 1, or what stands under
-\code{obs} of the budgets where they have that.}
+\item{choices}{a data frame with \code{budget}, \code{q_NAME} for each good, and \code{n}, how many times this was chosen; without
+\code{n} each row is one person's choice; or a matrix that begins with the budget and ends with how many times. A budget is its number
+from 1, or what stands under \code{budget} or \code{obs} of the budgets where they have that.}
 \item{per}{on how many units of each budget it is asked; else on the least with which each share is whole.}
 \item{decimals, numbers, exe, digits}{as for \code{\link{rp_test}}; the income is rounded as prices are.}
 \item{wide}{whether the wider edition is asked about choices with more patches or types than the program lists, which that refuses.}

@@ -37,7 +37,7 @@ quantities, where \code{NA} leaves a kind as it is. What is rounded is the decim
 \item{numbers}{which number a double is: \code{"shortest"}, the shortest decimal that gives it back, as 23.86, which is the one that
 it was read from; or \code{"exact"}, the binary fraction that it is, as 23.859999999999999431566. A double that needs more than 6
 decimal places or 7 digits is refused. The printed answer says where doubles were taken for decimals that are other numbers.}
-\item{levels}{the level of each observation in whole thousandths from 1 to 1000, one number or one for each; a data frame may
+\item{levels}{the level of each observation, a share of what was spent such as 0.95 or whole thousandths of it from 1 to 1000, one number or one for each; a data frame may
 have them as its column \code{e}.}
 \item{exe}{the program or its library; else one is looked for as \code{\link{rp_program}} says.}
 \item{wide}{whether what the program withholds is asked of its wider edition: the wider call of the library, else the program
