@@ -94,6 +94,29 @@ def crate_words():
     return rt.rtlib.RATTLE, [*crate.words(["--jobs", "1"], keeps=False), *rt.rtlib.KEPT]
 
 
+def newest(folder):
+    """Returns when a file of a folder was changed last, or 0 where there is none."""
+    return max((os.stat(f"{at}/{it}").st_mtime_ns for at, _, names in os.walk(folder) for it in names), default=0)
+
+
+def is_left_by_ci():
+    """Returns whether one run of `rt ci` left all libraries below the crate, and no source of theirs changed since.
+
+    What `rt lib` leaves of a library has a stamp beside it, and what `rt ci` leaves has none. `rt ci` gives back what lay here before
+    it, so there may be some of each, which do not fit together.
+    """
+    for crate in crates_of_library():
+        home = f"{TOP}/crates/{crate}"
+        if home == CRATE:
+            continue
+        rlib = f"{home}/out/rlib/{crate}.rlib"
+        if not os.path.isdir(rlib) or os.path.exists(f"{home}/out/rlib/stamp"):
+            return False
+        if max(newest(f"{home}/{part}") for part in ("src", "specs", "proofs")) > newest(rlib):
+            return False
+    return True
+
+
 def toolchain(room):
     """Makes a folder of the toolchain whose tools keep the LLVM module, and returns it with where that is kept."""
     real, kept, folder = f"{kit()}/toolchain", f"{room}/module.bc", f"{room}/toolchain"
@@ -161,6 +184,8 @@ def module_text(room):
 def make_module(room):
     """Makes the module's text in the room."""
     folder, kept = toolchain(room)
+    if not is_left_by_ci():
+        ran(["rt", "lib"], CRATE)
     rattle, words = crate_words()
     ran([rattle, "build", *words, "--cpu", "x86-64", "--toolchain", folder, "-o", f"{room}/librp_c.a"], CRATE)
     print_as_text = ["--target=x86_64-unknown-linux-gnu", "-S", "-emit-llvm", "-x", "ir", "-Xclang", "-disable-llvm-passes"]
