@@ -26,7 +26,7 @@ more : (n : ℕ) → 1 + n ≡ suc n
 more n = omega arith
 
 -- each id stands once
-abbrev AreDistinct : List (List ℕ) → Type 0
+abbrev pub AreDistinct : List (List ℕ) → Type 0
 AreDistinct [] = ⊤
 AreDistinct (id ∷ ids) = (list_any (bytes_eq id) ids ≡ false) × AreDistinct ids
 
@@ -38,7 +38,7 @@ distinct_push (first ∷ ids) id distinct new =
     (none, distinct_push ids id distinct.1 (right_none (bytes_eq id first) (list_any (bytes_eq id) ids) new))
 
 module _ (text : ℕ → List ℕ) where
-  ids_distinct : (n : ℕ) → AreDistinct (ids_below text n)
+  pub ids_distinct : (n : ℕ) → AreDistinct (ids_below text n)
   ids_distinct zero = tt
   ids_distinct (suc n) = by (is_none (id_fault (text n))) (list_any (bytes_eq (text n)) (ids_below text n)) refl (ids_distinct n)
     where
@@ -91,7 +91,7 @@ module _ (text : ℕ → List ℕ) where
       by false e = rw (fine, e) (list_any-append (bytes_eq (text n)) (ids_below text n) (text n ∷ []) ∙ rw (e, nat_list_eq_equiv.refl (text n)) refl)
 
   -- an id that no record had has no records
-  none_with : (n : ℕ) (id : List ℕ) → id_fault id ≡ None → list_any (bytes_eq id) (ids_below text n) ≡ false → records_with text n id ≡ []
+  pub none_with : (n : ℕ) (id : List ℕ) → id_fault id ≡ None → list_any (bytes_eq id) (ids_below text n) ≡ false → records_with text n id ≡ []
   none_with zero id fine none = refl
   none_with (suc n) id fine none = by (none_with n id fine (not_yet n id none)) (bytes_eq (text n) id) refl
     where
@@ -104,7 +104,7 @@ module _ (text : ℕ → List ℕ) where
       by before false e = rw e before
 
   -- what is no id is none of the ids
-  no_id : (n : ℕ) (id : List ℕ) (why : IdFault) → id_fault id ≡ Some why → list_any (bytes_eq id) (ids_below text n) ≡ false
+  pub no_id : (n : ℕ) (id : List ℕ) (why : IdFault) → id_fault id ≡ Some why → list_any (bytes_eq id) (ids_below text n) ≡ false
   no_id zero id why bad = refl
   no_id (suc n) id why bad = by (id_fault (text n)) refl (list_any (bytes_eq (text n)) (ids_below text n)) (no_id n id why bad)
     where

@@ -1,3 +1,5 @@
+pub mod CountLemmas
+pub mod EachOnceLemmas
 pub mod GroupLemmas
 pub mod HeaderLemmas
 pub mod PanelLemmas

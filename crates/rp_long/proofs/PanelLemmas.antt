@@ -1,9 +1,10 @@
 -- What the groups of a long file's records say of its households.
-use Rattle.std.proofs.Common.{◌≡◌, ◌≢◌, ℕ, zero, suc, ◌+◌, ◌<◌, ◌≤◌, Bool, true, false, if◌then◌else◌, List, [], ◌∷◌, ◌++◌, length, map, get_or, Ok, Err, sym, ap, ◌∙◌, subst, arith}
+use Rattle.std.proofs.Common.{◌≡◌, ◌≢◌, ℕ, zero, suc, ◌+◌, ◌<◌, ◌≤◌, Bool, true, false, if◌then◌else◌, List, [], ◌∷◌, ◌++◌, length, map, get_or, None, Ok, Err, refl, sym, ap, ◌∙◌, subst, arith}
 use Rattle.std.specs.List.{All}
 use Rattle.std.specs.Str.{bytes_eq}
 use Rattle.std.proofs.lemmas.List.{get_or-map, length-map}
 use Rattle.std.proofs.lemmas.List.Elements.{All-push}
+use Rattle.rp_limits.specs.declared.table.TheConstants.{RECORDS}
 use Rattle.rp_table.specs.Tables.{Observations}
 use Rattle.rp_forms.specs.Texts.{text_at}
 use Rattle.rp_sheet.specs.Fields.{rows_in}
@@ -14,8 +15,10 @@ use Rattle.rp_text.specs.Denotation.{denoted_table}
 use Rattle.rp_long.specs.Ids.{Grouped, grouped_below, ids_below, records_with}
 use Rattle.rp_long.specs.InLongFile.{denoted_in_long_file, in_long_file}
 use Rattle.rp_long.specs.LongColumns.{Uses}
+use Rattle.rp_long.specs.LongFaults.{goods_fault}
 use Rattle.rp_long.specs.Panels.{Panel, Household, household_at, household_of, household_with, id_text, nobody, panel_with}
 use Rattle.rp_long.specs.Places.{places_below}
+use Rattle.rp_long.proofs.CountLemmas.{told_many}
 
 -- the numbers below a bound that pass a test are below it
 places_within : (n m : ℕ) (test : ℕ → Bool) → n ≤ m → All (λ t. t < m) (places_below n test)
@@ -83,6 +86,14 @@ module _ (uses : Uses) (records : List (List (List ℕ))) (groups : Grouped) (pa
 
     pub table_there : (table : Observations) → denoted_table read ≡ Ok table → (household_at panel h).table ≡ Ok table
     table_there table denoted = its_table ∙ ap (denoted_in_long_file rows columns) denoted
+
+    pub table_many : goods_fault columns records ≡ None → RECORDS < length rows → (household_at panel h).table ≡ Err fault.TooManyRecords
+    table_many fine many =
+        its_table ∙ ap (λ (rs : List (List (List ℕ))). denoted_in_long_file rows columns (denoted_table rs)) selected ∙ told_many records columns rows fine many
+
+    -- the household has as many records as its group
+    pub same_length : length (household_at panel h).records ≡ length rows
+    same_length = ap (λ (household : Household). length household.records) (household_there h within) ∙ ap length (sym of_group)
 
     pub table_refused : (e told : TableFault) → denoted_table read ≡ Err e → told ≡ in_long_file rows columns e → (household_at panel h).table ≡ Err told
     table_refused e told denoted is = its_table ∙ ap (denoted_in_long_file rows columns) denoted ∙ ap Err (sym is)

@@ -44,7 +44,7 @@ few_or_many n m = by (nat_lt m n) refl
     by true e = inr (grind (arith, nat_tests, e))
     by false e = inl (not_less m n e)
 
-is_less : (a b : ℕ) → a < b → nat_lt a b ≡ true
+pub is_less : (a b : ℕ) → a < b → nat_lt a b ≡ true
 is_less a b less = grind (arith, nat_tests)
 
 pub are_one : (a b : ℕ) → a ≡ b → (a == b) ≡ true

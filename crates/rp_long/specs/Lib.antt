@@ -4,3 +4,4 @@ pub mod LongColumns
 pub mod LongFaults
 pub mod Ids
 pub mod Panels
+pub mod EachOnce

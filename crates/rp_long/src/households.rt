@@ -1,15 +1,18 @@
 //! The households of a long file.
-ghost use Rattle.std.specs.Prelude.{◌≡◌, ◌+◌, ◌<◌, Ok, IfOk, length, map, slice_index_or};
+ghost use Rattle.std.specs.Prelude.{◌≡◌, ◌+◌, ◌<◌, Err, None, Ok, IfOk, length, map, slice_index_or};
+ghost use Rattle.rp_limits.specs.declared.table.TheConstants.{RECORDS};
 ghost use Rattle.rp_sheet.specs.Refusals.{RefusedAs};
 ghost use Rattle.rp_sheet.specs.Fields.{row_at, rows_in};
 ghost use Rattle.rp_sheet.specs.Records.{selected_fields};
 ghost use Rattle.rp_long.specs.Ids.{grouped_below};
+ghost use Rattle.rp_long.specs.LongFaults.{goods_fault};
 ghost use Rattle.rp_long.specs.Panels.{household_at, id_text, panel_with};
 
 use crate::Unnamed;
 use crate::columns::LongColumns;
 use crate::groups::Groups;
 use crate::in_long_file::in_long_file;
+use rp_limits::table::RECORDS;
 use rp_num::{NoMemory, Seq};
 use rp_sheet::{Records, TableFault};
 use rp_table::Table;
@@ -27,9 +30,10 @@ pub struct Households<'a> {
 }
 
 impl<'a> Model for Households<'a> {
-    ghost use Rattle.std.specs.Prelude.{◌≡◌, ◌<◌, length};
+    ghost use Rattle.std.specs.Prelude.{◌≡◌, ◌<◌, None, length};
     ghost use Rattle.rp_sheet.specs.Fields.{rows_in};
     ghost use Rattle.rp_long.specs.Ids.{grouped_below};
+    ghost use Rattle.rp_long.specs.LongFaults.{goods_fault};
     ghost use Rattle.rp_long.specs.Panels.{Panel, id_text, panel_with};
 
     ghost Value = { Panel };
@@ -37,7 +41,8 @@ impl<'a> Model for Households<'a> {
     ghost view = { λ h. panel_with h.columns h.records.now };
 
     ghost invariant = { λ h. (1 < length h.records.now)
-        × (h.groups ≡ grouped_below (id_text h.columns.id h.records.now) (rows_in h.records.now)) };
+        × (h.groups ≡ grouped_below (id_text h.columns.id h.records.now) (rows_in h.records.now))
+        × (goods_fault h.columns.table h.records.now ≡ None) };
 }
 
 impl<'a> Households<'a> {
@@ -50,6 +55,7 @@ impl<'a> Households<'a> {
         requires some { 1 < length records.now }
         requires grouped { groups ≡ grouped_below (id_text columns.id records.now)
             (rows_in records.now) }
+        requires goods { goods_fault columns.table records.now ≡ None }
         ensures { result ≡ panel_with columns records.now }
     {
         Households {
@@ -91,13 +97,19 @@ impl<'a> Households<'a> {
         texts_in(alloc, self.records, first as usize, self.columns.kept())
     }
 
-    /// The table of a household, or its fault with the record and the column of the long file.
+    /// The table of a household, or its fault with the record and the column of the long file. A household with more
+    /// records than a table may have is told so before memory is asked for, so memory never runs out on its records.
     pub fn table(&self, alloc: Global, h: usize) -> Result<Table, TableFault>
         requires { h < length self.now.households }
         ensures denoted { IfOk result (λ table. (household_at self.now h).table ≡ Ok table) }
         ensures refused { RefusedAs result (household_at self.now h).table }
+        ensures counted { RECORDS < length (household_at self.now h).records
+            → result ≡ Err TableFault.TooManyRecords }
     {
         let rows = self.groups.members(h);
+        if rows.len() > RECORDS as usize {
+            return Err(TableFault::NoMemory);
+        }
         let columns = self.columns.table();
         let records = self.records.selected(alloc, rows, columns)?;
         match read_table_of(alloc, &records) {

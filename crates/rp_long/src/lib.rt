@@ -9,8 +9,10 @@ mod groups;
 mod headers;
 mod households;
 mod in_long_file;
+mod laws;
 mod read;
 
 pub use fault::{IdFault, LongFault, Unnamed};
 pub use households::Households;
+pub use laws::each_record_stands_once;
 pub use read::{read_long_records, read_panel};

@@ -1,15 +1,15 @@
 -- The causes of the endings exclude one another, so the frame decides which ending comes.
-use Rattle.std.proofs.Common.{◌≡◌, ◌≢◌, ◌<◌, ℕ, List, ◌∷◌, Option, Some, None, inl, inr, refl, subst, ap, arith, length}
+use Rattle.std.proofs.Common.{◌≡◌, ◌≢◌, ◌<◌, ◌≤◌, ℕ, List, ◌∷◌, Option, Some, None, inl, inr, refl, subst, sym, ap, arith, length}
 use Rattle.std.specs.Option.{ForSome}
 use Rattle.rp_frame.specs.Frames.{Frame, Request, request_in}
 use Rattle.rp_frame.specs.Given.{AreGiven, IsFirstMissing}
 use Rattle.rp_frame.specs.Handed.{IsText}
 use Rattle.rp_outside.specs.Files.{bytes_under}
-use Rattle.rp_outside.specs.Known.{AreAtMost, AreMoreThan}
+use Rattle.rp_outside.specs.Known.{AreAll}
 use Rattle.rp_bound_rows.specs.declared.asked.BoundsAsked.{BoundsAsked}
 use Rattle.rp_limits.specs.declared.run.TheConstants.{MOST_BYTES}
 use Rattle.rp_long.specs.Panels.{Panel}
-use Rattle.rp_panel_run.specs.Endings.{IsPanelFile, IsRefused, IsRefusedKnown, IsTextBy, IsTextOf}
+use Rattle.rp_panel_run.specs.Endings.{AnswersWith, Files, IsLongRefusal, IsPanelFile, IsTextBy, RefusesWith}
 use Rattle.rp_panel_run.specs.Questions.{Asking, files_of, new_files}
 use Rattle.rp_panel_run.specs.declared.status.Status.{Status}
 use Rattle.rp_panel_run.specs.declared.status.Status.TheVariants.{Done, Usage, ReadFault, Refused, WriteFault, NoMemory}
@@ -35,31 +35,24 @@ given_apart request a other k asks given also first =
     given k here.within here.missing
 
 -- bytes that are accepted are not refused
-accepted_not_refused : (a : Asking) (bytes line : List ℕ) → IsPanelFile a bytes → IsRefused a bytes line → ⊥
+accepted_not_refused : (a : Asking) (bytes line : List ℕ) → IsPanelFile a bytes → IsLongRefusal a bytes line → ⊥
 accepted_not_refused a bytes line accepted (inl long) = omega (arith, accepted.few, long.many)
 accepted_not_refused a bytes line accepted (inr fault) = let is = accepted.denoted in let refused = fault.denoted in cc
 
--- the same of files that are given
-known_apart : (a : Asking) (o : Option (List ℕ)) (line : List ℕ) → o ≢ None → ForSome o (IsPanelFile a) → ForSome o (λ bytes. IsRefused a bytes line) → ⊥
-known_apart a None line given accepted refused = given refl
-known_apart a (Some bytes) line given accepted refused = accepted_not_refused a bytes line (accepted bytes refl) (refused bytes refl)
-
-few_not_many : (o : Option (List ℕ)) → o ≢ None → AreAtMost MOST_BYTES o → AreMoreThan MOST_BYTES o → ⊥
-few_not_many None given few many = given refl
-few_not_many (Some bytes) given few many = omega (arith, few bytes refl, many bytes refl)
+-- what holds of a file that is given holds of its content
+of_content : {P : List ℕ → Type 0} (o : Option (List ℕ)) (bytes : List ℕ) → o ≢ None → ForSome o P → AreAll o bytes → P bytes
+of_content {P} None bytes given holds all = absurd (given refl)
+of_content {P} (Some found) bytes given holds all = subst P (sym (all found refl)) (holds found refl)
 
 -- what was written is of files that are accepted
-new_accepted : (bounds : Option BoundsAsked) (a : Asking) (new : Option (List ℕ)) (panel : Panel) (text : List ℕ) → IsTextBy bounds a new panel text
-    → bounds ≢ None → AreAtMost MOST_BYTES new
-new_accepted None a new panel text is some = absurd (some refl)
-new_accepted (Some asked) a new panel text is some = λ bytes held. (is bytes held).few
+few_new : (bounds : Option BoundsAsked) (a : Asking) (new : List ℕ) (panel : Panel) (text : List ℕ) → IsTextBy bounds a new panel text → bounds ≢ None → length new ≤ MOST_BYTES
+few_new None a new panel text is some = absurd (some refl)
+few_new (Some asked) a new panel text is some = is.few
 
-text_accepted : (a : Asking) (text told : List ℕ) (o new : Option (List ℕ)) → o ≢ None → ForSome o (λ bytes. IsTextOf a new bytes text told)
-    → ForSome o (IsPanelFile a) × (a.bounds ≢ None → AreAtMost MOST_BYTES new)
-text_accepted a text told None new given are = absurd (given refl)
-text_accepted a text told (Some bytes) new given are = (
-  λ found is. record { few = (are found is).few; panel = (are found is).panel; denoted = (are found is).denoted },
-  new_accepted a.bounds a new (are bytes refl).panel text (are bytes refl).answers.is_text,
+text_accepted : (a : Asking) (files : Files) (text told : List ℕ) → AnswersWith a files text told → IsAccepted a files
+text_accepted a files text told (held, contents, is) = (
+  λ found known. subst (λ (bytes : List ℕ). IsPanelFile a bytes) (contents.long found known) (record { few = is.few; panel = is.panel; denoted = is.denoted }),
+  λ some found known. subst (λ (bytes : List ℕ). length bytes ≤ MOST_BYTES) (contents.new some found known) (few_new a.bounds a held.new is.panel text is.answers.is_text some),
 )
 
 file_given : (request : Request) (a : Asking) → AreGiven request.files (files_of a) → bytes_under request.files a.file ≢ None
@@ -71,17 +64,20 @@ second_given files None file new given some = absurd (some refl)
 second_given files (Some asked) file new given some = given 1 (omega arith)
 
 refused_apart : (request : Request) (a : Asking) (told : List ℕ) → AreGiven request.files (files_of a) → IsAccepted a (given_files request)
-    → IsRefusedKnown a (given_files request) told → ⊥
-refused_apart request a told given accepted (inl long) =
-    known_apart a (bytes_under request.files a.file) told (file_given request a given) accepted.0 long
-refused_apart request a told given accepted (inr new) =
-    few_not_many (bytes_under request.files a.new_prices) (second_given request.files a.bounds a.file a.new_prices given new.asked) (accepted.1 new.asked) new.many
+    → RefusesWith a (given_files request) told → ⊥
+refused_apart request a told given accepted (held, contents, inl long) =
+    accepted_not_refused a held.long told
+    (of_content {P = IsPanelFile a} (bytes_under request.files a.file) held.long (file_given request a given) accepted.0 contents.long) long
+refused_apart request a told given accepted (held, contents, inr new) =
+    let few = of_content {P = λ bytes. length bytes ≤ MOST_BYTES} (bytes_under request.files a.new_prices) held.new
+    (second_given request.files a.bounds a.file a.new_prices given new.asked) (accepted.1 new.asked) (contents.new new.asked) in
+    omega (arith, few, new.many)
 
 accepted_apart : (request : Request) (a other : Asking) (told : List ℕ) → Asks request a → AreGiven request.files (files_of a) → Asks request other
-    → IsAccepted a (given_files request) → IsRefusedKnown other (given_files request) told → ⊥
+    → IsAccepted a (given_files request) → RefusesWith other (given_files request) told → ⊥
 accepted_apart request a other told asks given also accepted refuses =
     refused_apart request a told given accepted
-    (subst (λ (b : Asking). IsRefusedKnown b (given_files request) told) (one_asking request other a also.asked asks.asked) refuses)
+    (subst (λ (b : Asking). RefusesWith b (given_files request) told) (one_asking request other a also.asked asks.asked) refuses)
 
 no_asking_of : (request : Request) (s : Status) (text told : List ℕ) → asked_of request ≡ None → IsStatusOf request s text told → s ≡ Usage
 no_asking_of request Done text told none is = absurd (none_apart request is.asking none is.asks.asked)
@@ -111,7 +107,7 @@ missing_of request a k NoMemory text told asks first is = absurd is
 refused_of : (request : Request) (a : Asking) (s : Status) (text told : List ℕ) → Asks request a → AreGiven request.files (files_of a)
     → IsRefusedFile a (given_files request) → IsStatusOf request s text told → s ≡ Refused
 refused_of request a Done text told asks given (line, refused) is =
-    absurd (accepted_apart request is.asking a line is.asks is.given asks (text_accepted is.asking text told (bytes_under request.files is.asking.file) (bytes_under request.files is.asking.new_prices) (file_given request is.asking is.given) is.written) refused)
+    absurd (accepted_apart request is.asking a line is.asks is.given asks (text_accepted is.asking (given_files request) text told is.written) refused)
 refused_of request a Usage text told asks given refused is = absurd (none_apart request a is.no_asking asks.asked)
 refused_of request a ReadFault text told asks given refused is = absurd (given_apart request a is.asking is.place asks given is.asks is.first)
 refused_of request a Refused text told asks given refused is = refl

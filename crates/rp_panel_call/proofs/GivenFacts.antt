@@ -9,10 +9,7 @@ use Rattle.rp_frame.specs.Frames.{Frame, Request, request_in}
 use Rattle.rp_frame.specs.Given.{AreGiven, IsFirstMissing}
 use Rattle.rp_frame.specs.Handed.{Holds, IsText}
 use Rattle.rp_frame.specs.declared.handed.Handed.{Handed}
-use Rattle.rp_bound_rows.specs.declared.asked.BoundsAsked.{BoundsAsked}
-use Rattle.rp_limits.specs.declared.run.TheConstants.{MOST_BYTES}
-use Rattle.rp_long.specs.Panels.{Panel}
-use Rattle.rp_panel_run.specs.Endings.{AreBoundsAt, IsPanelFile, IsRefused, IsRefusedKnown, IsTextBy, IsTextOf, IsTextOfKnown}
+use Rattle.rp_panel_run.specs.Endings.{AnswersWith, AreContents, Contents, RefusesWith}
 use Rattle.rp_panel_run.specs.Questions.{Asking, asking_in, files_of}
 use Rattle.rp_panel_run.specs.Told.{unread_line}
 use Rattle.rp_panel_run.specs.declared.status.Status.{Status}
@@ -42,29 +39,17 @@ AreNamesIn words names = Some names ≡ option_map files_of (asking_in words)
 of_given : {P : List ℕ → Type 0} (o : Option (List ℕ)) → ForSome (Some (unwrap_or o [])) P → ForSome o P
 of_given {P} o are bytes is = subst (λ (p : Option (List ℕ)). P (unwrap_or p [])) is (are (unwrap_or o []) refl)
 
-given_new : (bounds : Option BoundsAsked) (a : Asking) (o : Option (List ℕ)) (panel : Panel) (text : List ℕ) → IsTextBy bounds a (Some (unwrap_or o [])) panel text
-    → IsTextBy bounds a o panel text
-given_new None a o panel text is = is
-given_new (Some asked) a o panel text is = of_given {P = AreBoundsAt a asked panel text} o is
+given_contents : (a : Asking) (files : NamedFiles) (held : Contents) → AreContents a (known_in files) held → AreContents a (bytes_under files) held
+given_contents a files held are = record {
+  long = of_given {P = λ bytes. held.long ≡ bytes} (bytes_under files a.file) are.long;
+  new = λ some. of_given {P = λ bytes. held.new ≡ bytes} (bytes_under files a.new_prices) (are.new some);
+}
 
-given_text : (a : Asking) (text told : List ℕ) (files : NamedFiles) → IsTextOfKnown a (known_in files) text told → IsTextOfKnown a (bytes_under files) text told
-given_text a text told files are bytes is =
-    let of = of_given {P = λ bytes. IsTextOf a (known_in files a.new_prices) bytes text told} (bytes_under files a.file) are bytes is in
-    record {
-      few = of.few;
-      panel = of.panel;
-      denoted = of.denoted;
-      answers = record { is_text = given_new a.bounds a (bytes_under files a.new_prices) of.panel text of.answers.is_text; is_told = of.answers.is_told };
-    }
+given_text : (a : Asking) (text told : List ℕ) (files : NamedFiles) → AnswersWith a (known_in files) text told → AnswersWith a (bytes_under files) text told
+given_text a text told files (held, are, is) = (held, given_contents a files held are, is)
 
-given_refusal : (a : Asking) (line : List ℕ) (files : NamedFiles) → IsRefusedKnown a (known_in files) line → IsRefusedKnown a (bytes_under files) line
-given_refusal a line files (inl long) = inl (of_given {P = λ bytes. IsRefused a bytes line} (bytes_under files a.file) long)
-given_refusal a line files (inr new) = inr (record {
-  asked = new.asked;
-  accepted = of_given {P = IsPanelFile a} (bytes_under files a.file) new.accepted;
-  many = of_given {P = λ bytes. MOST_BYTES < length bytes} (bytes_under files a.new_prices) new.many;
-  tells = new.tells;
-})
+given_refusal : (a : Asking) (line : List ℕ) (files : NamedFiles) → RefusesWith a (known_in files) line → RefusesWith a (bytes_under files) line
+given_refusal a line files (held, are, is) = (held, given_contents a files held are, is)
 
 -- the status of a request is that of the run over its files, where each file that it names is given and no more are
 status_of_run : (request : Request) (s : Status) (text told : List ℕ) → ((a : Asking) → asked_of request ≡ Some a → IsWhole request.files a)

@@ -3,7 +3,7 @@ use Rattle.std.proofs.Common.{◌≡◌, ◌≢◌, ℕ, List, [], Option, Some,
 use Rattle.rp_outside.specs.Faults.{HasRisen}
 use Rattle.rp_outside.specs.Known.{Grows, Stays}
 use Rattle.rp_outside.specs.SureDesk.{SureState, bytes_or_none}
-use Rattle.rp_panel_run.specs.Endings.{Files, IsRefusedKnown, IsTextOfKnown, IsUnread}
+use Rattle.rp_panel_run.specs.Endings.{Files, RefusesWith, AnswersWith, IsUnread}
 use Rattle.rp_panel_run.specs.Questions.{Asking}
 use Rattle.rp_panel_run.specs.Told.{Gains, usage_line}
 use Rattle.rp_panel_run.specs.declared.status.Status.{Status}
@@ -31,11 +31,11 @@ unread_risen a files line (inr new) = new.unread.risen
 pub record Clauses (files : Files) (asked : Option Asking) (s : Status) (out_old out : Option (List ℕ)) (out_before out_after : ℕ)
     (err_old err : Option (List ℕ)) (err_before err_after : ℕ) : Type 0 where
   pub usage : s ≡ Usage → (asked ≡ None) × Gains err_old err err_before err_after usage_line
-  pub written : s ≡ Done → (a : Asking) × (text : List ℕ) × (told : List ℕ) × (asked ≡ Some a) × IsTextOfKnown a files text told
+  pub written : s ≡ Done → (a : Asking) × (text : List ℕ) × (told : List ℕ) × (asked ≡ Some a) × AnswersWith a files text told
       × Grows out_old out text × Gains err_old err err_before err_after told
   pub cut_short : s ≡ WriteFault → HasRisen out_before out_after
   pub silent : s ≢ Done → s ≢ WriteFault → Stays out_old out
-  pub refused : s ≡ Refused → (a : Asking) × (line : List ℕ) × (asked ≡ Some a) × IsRefusedKnown a files line × Gains err_old err err_before err_after line
+  pub refused : s ≡ Refused → (a : Asking) × (line : List ℕ) × (asked ≡ Some a) × RefusesWith a files line × Gains err_old err err_before err_after line
   pub read_fault : s ≡ ReadFault → HasRisen 0 0
 
 is_run : (files : Files) (asked : Option Asking) (s : Status) (out err : List ℕ) → Clauses files asked s (Some []) (Some out) 0 0 (Some []) (Some err) 0 0
@@ -45,7 +45,7 @@ is_run files asked Done out err clauses other =
     record {
       asking = a;
       asks = is;
-      written = subst (λ (t : List ℕ). IsTextOfKnown a files t err) (sym (grown out text grows)) (subst (λ (t : List ℕ). IsTextOfKnown a files text t) (sym (gained err told gains)) writes);
+      written = subst (λ (t : List ℕ). AnswersWith a files t err) (sym (grown out text grows)) (subst (λ (t : List ℕ). AnswersWith a files text t) (sym (gained err told gains)) writes);
     }
 is_run files asked Usage out err clauses other =
     let told = clauses.usage refl in
@@ -57,7 +57,7 @@ is_run files asked Refused out err clauses other =
       asking = a;
       asks = is;
       silent = stayed out (clauses.silent (λ e. cc e) (λ e. cc e));
-      refuses = subst (λ (t : List ℕ). IsRefusedKnown a files t) (sym (gained err line gains)) refuses;
+      refuses = subst (λ (t : List ℕ). RefusesWith a files t) (sym (gained err line gains)) refuses;
     }
 is_run files asked WriteFault out err clauses other = absurd (none_risen (clauses.cut_short refl))
 is_run files asked NoMemory out err clauses other = absurd (other refl)

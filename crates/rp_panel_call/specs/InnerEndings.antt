@@ -2,7 +2,7 @@
 use Rattle.std.specs.Prelude.{◌≡◌, List, [], ◌∷◌, ℕ, Option, Some, None, codes, unwrap_or}
 use Rattle.rp_outside.specs.Files.{bytes_under}
 use Rattle.rp_frame.specs.Frames.{Request}
-use Rattle.rp_panel_run.specs.Endings.{Files, IsRefusedKnown, IsTextOfKnown}
+use Rattle.rp_panel_run.specs.Endings.{Files, RefusesWith, AnswersWith}
 use Rattle.rp_panel_run.specs.Questions.{Asking}
 use Rattle.rp_panel_run.specs.Told.{unread_line, usage_line}
 use Rattle.rp_panel_run.specs.declared.status.Status.{Status}
@@ -20,7 +20,7 @@ known_in files name = Some (unwrap_or (bytes_under files name) [])
 pub record RunWrites (files : Files) (asked : Option Asking) (text told : List ℕ) : Type 0 where
   pub asking : Asking
   pub asks : asked ≡ Some asking
-  pub written : IsTextOfKnown asking files text told
+  pub written : AnswersWith asking files text told
 
 -- words that are none that the program takes
 pub record RunTellsUsage (asked : Option Asking) (text told : List ℕ) : Type 0 where
@@ -33,7 +33,7 @@ pub record RunRefuses (files : Files) (asked : Option Asking) (text told : List 
   pub asking : Asking
   pub asks : asked ≡ Some asking
   pub silent : text ≡ []
-  pub refuses : IsRefusedKnown asking files told
+  pub refuses : RefusesWith asking files told
 
 -- what a run wrote and told, by its status; memory did not run out
 abbrev pub IsRun : Files → Option Asking → Status → List ℕ → List ℕ → Type 0

@@ -10,7 +10,7 @@ use Rattle.rp_frame.specs.Frames.{Frame, Request, request_in}
 use Rattle.rp_frame.specs.Given.{AreGiven, IsFirstMissing}
 use Rattle.rp_frame.specs.Handed.{IsText}
 use Rattle.rp_frame.specs.Rooms.{filled}
-use Rattle.rp_panel_run.specs.Endings.{Files, IsPanelFile, IsRefusedKnown, IsTextOfKnown, status_number}
+use Rattle.rp_panel_run.specs.Endings.{Files, IsPanelFile, RefusesWith, AnswersWith, status_number}
 use Rattle.rp_panel_run.specs.Questions.{Asking, asking_in, files_of}
 use Rattle.rp_panel_run.specs.Told.{memory_line, unread_line, usage_line}
 use Rattle.rp_panel_run.specs.declared.status.Status.{Status}
@@ -37,7 +37,7 @@ pub record IsWritten (request : Request) (text told : List ℕ) : Type 0 where
   pub asking : Asking
   pub asks : Asks request asking
   pub given : AreGiven request.files (files_of asking)
-  pub written : IsTextOfKnown asking (given_files request) text told
+  pub written : AnswersWith asking (given_files request) text told
 
 -- the words of a request are none that the program takes, and the usage is told
 pub record IsUsage (request : Request) (text told : List ℕ) : Type 0 where
@@ -60,7 +60,7 @@ pub record IsRefusal (request : Request) (text told : List ℕ) : Type 0 where
   pub asks : Asks request asking
   pub given : AreGiven request.files (files_of asking)
   pub silent : text ≡ []
-  pub refuses : IsRefusedKnown asking (given_files request) told
+  pub refuses : RefusesWith asking (given_files request) told
 
 -- a status of a request, with what is written and what is told: its cause holds
 abbrev pub IsStatusOf : Request → Status → List ℕ → List ℕ → Type 0
@@ -134,7 +134,7 @@ IsAccepted a files =
 
 -- a file is refused, with some line
 abbrev pub IsRefusedFile : Asking → Files → Type 0
-IsRefusedFile a files = (line : List ℕ) × IsRefusedKnown a files line
+IsRefusedFile a files = (line : List ℕ) × RefusesWith a files line
 
 -- an ending, or want of memory
 abbrev pub OrNoMemory : Ending → Ending → Type 0

@@ -1,2 +1,4 @@
 pub mod WordLemmas
 pub mod CauseLemmas
+pub mod TurnLemmas
+pub mod EndLemmas

@@ -1,14 +1,17 @@
 -- Why a question about a long file has no table, as the functions of this crate hand it on.
-use Rattle.std.specs.Prelude.{◌≡◌, ◌≢◌, ◌⊎◌, ⊤, ℕ, Bool, true, false, List, Option, None, Ok, Err, codes}
+use Rattle.std.specs.Prelude.{◌≡◌, ◌≢◌, ◌≤◌, ◌⊎◌, ⊤, ℕ, ◌+◌, Bool, true, false, List, Option, None, Ok, Err, codes}
+use Rattle.rp_bound_rows.specs.declared.asked.BoundsAsked.{BoundsAsked}
 use Rattle.rp_limits.specs.declared.run.TheConstants.{MOST_BYTES}
-use Rattle.rp_outside.specs.Known.{AreMoreThan}
+use Rattle.rp_outside.specs.Asked.{KeepsReads, Reads}
+use Rattle.rp_outside.specs.Known.{AreAll, AreMoreThan}
 use Rattle.rp_long.specs.Panels.{Panel, denoted_panel}
 use Rattle.rp_long.specs.declared.fault.LongFault.{LongFault}
 use Rattle.rp_long.specs.declared.fault.LongFault.TheVariants as long_fault
 use Rattle.rp_sheet.specs.declared.fault.TableFault.{TableFault}
 use Rattle.rp_sheet.specs.declared.fault.TableFault.TheVariants as table_fault
-use Rattle.rp_panel_run.specs.Endings.{Files, HasFault, IsAnswerFor, IsPanelFile, IsRefusedKnown, IsUnread}
-use Rattle.rp_panel_run.specs.Questions.{Asking, id_name}
+use Rattle.rp_panel_run.specs.Endings.{Files, HasFault, IsAnswerFor, IsPanelFile, IsTextOf, IsUnread, RefusesWith}
+use Rattle.rp_panel_run.specs.Questions.{Asking, id_name, new_files}
+use Rattle.rp_panel_run.specs.Turns.{GrowsInOrder, calls_of_new}
 use Rattle.rp_panel_run.specs.Told.{file_line, long_fault_text, unread_line}
 use Rattle.rp_panel_run.specs.declared.answer.Cause.{Cause}
 use Rattle.rp_panel_run.specs.declared.answer.Cause.TheVariants as cause
@@ -16,7 +19,7 @@ use Rattle.rp_panel_run.specs.declared.answer.Cause.TheVariants as cause
 -- the cause of files whose bytes may not be known, with what their counts of faults were and are
 abbrev pub IsCauseOf : Asking → Files → (List ℕ → ℕ) → (List ℕ → ℕ) → Cause → Type 0
 IsCauseOf a files before after (cause.Read line) = IsUnread a files before after line.items
-IsCauseOf a files before after (cause.Refused line) = IsRefusedKnown a files line.items
+IsCauseOf a files before after (cause.Refused line) = RefusesWith a files line.items
 IsCauseOf a files before after cause.NoMemory = ⊤
 
 -- why a file of at most so many bytes was not read; `rose` says that its count of faults has risen
@@ -40,16 +43,30 @@ IsFaultCause a new rose bytes (cause.Refused line) =
     HasFault a bytes line.items ⊎ (IsPanelFile a bytes × IsNewCause a new rose (cause.Refused line))
 IsFaultCause a new rose bytes cause.NoMemory = ⊤
 
--- the records denote a panel, and this is the answer for it
-pub record IsTextOfRecords (a : Asking) (new : Option (List ℕ)) (records : List (List (List ℕ))) (text told : List ℕ)
-    : Type 0 where
-  pub panel : Panel
-  pub denoted : denoted_panel (id_name a) a.kept records ≡ Ok panel
-  pub answers : IsAnswerFor a new panel text told
+-- the text, and what is told, answer a question over these bytes of the long file and some content of that of new prices
+abbrev pub IsTextBeside : Asking → Option (List ℕ) → List ℕ → List ℕ → List ℕ → Type 0
+IsTextBeside a known long text told = (new : List ℕ) × (a.bounds ≢ None → AreAll known new)
+    × IsTextOf a (record { long = long; new = new }) text told
 
--- the records denote a panel
-abbrev pub DenotePanel : Asking → List (List (List ℕ)) → Type 0
-DenotePanel a records = (panel : Panel) × (denoted_panel (id_name a) a.kept records ≡ Ok panel)
+-- the same for this panel
+abbrev pub IsAnswerBeside : Asking → Option (List ℕ) → Panel → List ℕ → List ℕ → Type 0
+IsAnswerBeside a known panel text told =
+    (new : List ℕ) × (a.bounds ≢ None → AreAll known new) × IsAnswerFor a new panel text told
+
+-- no file is asked for, by the counts of calls and the reads before and after
+pub record AsksForNone (before after : ℕ) (old new : Option Reads) : Type 0 where
+  pub calls : after ≡ before
+  pub names : KeepsReads old new
+
+-- no file is asked for but that of new prices, where bounds are asked, and that one is read at most once
+pub record AsksForNew (bounds : Option BoundsAsked) (file : List ℕ) (known : Option (List ℕ)) (before after : ℕ)
+    (old new : Option Reads) : Type 0 where
+  pub calls : after ≤ before + calls_of_new bounds known
+  pub names : GrowsInOrder old new (new_files bounds file)
+
+-- these bytes of the long file are refused
+abbrev pub IsFaulty : Asking → List ℕ → Type 0
+IsFaulty a long = (line : List ℕ) × HasFault a long line
 
 -- the records denote no panel, and this line tells their first fault
 pub record IsFaultLine (a : Asking) (records : List (List (List ℕ))) (line : List ℕ) : Type 0 where
@@ -58,12 +75,10 @@ pub record IsFaultLine (a : Asking) (records : List (List (List ℕ))) (line : L
   pub tells : line ≡ file_line a.file (long_fault_text fault)
 
 -- the cause of these records
-abbrev pub IsFaultOfRecords : Asking → Option (List ℕ) → Type 0 → List (List (List ℕ)) → Cause → Type 0
-IsFaultOfRecords a new rose records (cause.Read line) =
-    DenotePanel a records × IsNewCause a new rose (cause.Read line)
-IsFaultOfRecords a new rose records (cause.Refused line) =
-    IsFaultLine a records line.items ⊎ (DenotePanel a records × IsNewCause a new rose (cause.Refused line))
-IsFaultOfRecords a new rose records cause.NoMemory = ⊤
+abbrev pub IsFaultOfRecords : Asking → List (List (List ℕ)) → Cause → Type 0
+IsFaultOfRecords a records (cause.Read line) = ⊥
+IsFaultOfRecords a records (cause.Refused line) = IsFaultLine a records line.items
+IsFaultOfRecords a records cause.NoMemory = ⊤
 
 -- a refusal with this text about a file
 abbrev pub IsToldAs : List ℕ → List ℕ → Cause → Type 0

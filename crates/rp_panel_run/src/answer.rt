@@ -1,19 +1,22 @@
 //! The table of a long file, or its bounds at the prices of a second file, or why there is none.
-ghost use Rattle.std.specs.Prelude.{◌≡◌, ◌<◌, ◌≤◌, ◌^◌, IfErr, IfOk, Some, length};
-ghost use Rattle.std.specs.Option.{ForSome};
+ghost use Rattle.std.specs.Prelude.{◌≡◌, ◌≢◌, ◌<◌, ◌≤◌, ◌+◌, ◌^◌, IfErr, IfOk, None, Ok, length};
 ghost use Rattle.rp_bounds_panel.specs.BoundsText.{IsBoundsText};
 ghost use Rattle.rp_limits.specs.declared.long.TheConstants.{BYTES};
 ghost use Rattle.rp_limits.specs.declared.run.TheConstants.{MOST_BYTES};
-ghost use Rattle.rp_outside.specs.Faults.{EachStays, HasRisen};
+ghost use Rattle.rp_long.specs.Panels.{denoted_panel};
+ghost use Rattle.rp_outside.specs.Asked.{AsksAtMostOnce, AsksOnce};
+ghost use Rattle.rp_outside.specs.Faults.{EachStays, HasRisen, NoneFalls};
 ghost use Rattle.rp_outside.specs.Known.{AreAll};
+ghost use Rattle.rp_outside.specs.Reads.{calls_through};
 ghost use Rattle.rp_panel.specs.PanelText.{IsPanelText};
-ghost use Rattle.rp_panel_run.specs.Endings.{AreBoundsAt, IsAnswerFor, IsTextBy, IsTextOf};
-ghost use Rattle.rp_panel_run.specs.Endings.{IsTextOfKnown};
-ghost use Rattle.rp_panel_run.specs.InnerCauses.{IsCauseOf, IsFaultCause, IsFaultOfRecords};
-ghost use Rattle.rp_panel_run.specs.InnerCauses.{IsLoadCause, IsNewCause, IsTextOfRecords, IsToldAs};
+ghost use Rattle.rp_panel_run.specs.Endings.{AnswersWith, AreBoundsAt, IsAnswerFor, IsTextBy};
+ghost use Rattle.rp_panel_run.specs.InnerCauses.{AsksForNew, AsksForNone, IsAnswerBeside, IsCauseOf};
+ghost use Rattle.rp_panel_run.specs.InnerCauses.{IsFaultCause, IsFaultOfRecords, IsFaulty};
+ghost use Rattle.rp_panel_run.specs.InnerCauses.{IsLoadCause, IsNewCause, IsTextBeside, IsToldAs};
 ghost use Rattle.rp_panel_run.specs.InnerCauses.{IsToldUnread, is_memory};
-ghost use Rattle.rp_panel_run.specs.Questions.{demand_by, given_by, more_asked, welfare_by};
+ghost use Rattle.rp_panel_run.specs.Questions.{demand_by, given_by, id_name, more_asked, welfare_by};
 ghost use Rattle.rp_panel_run.specs.Told as Told;
+ghost use Rattle.rp_panel_run.specs.Turns.{AreAskedInTurn, AreReadInTurn};
 
 use crate::question::Question;
 use crate::telling::{left_out_lines, line_about, long_fault_text, unread_line};
@@ -58,20 +61,26 @@ impl From<NoMemory> for Cause {
     }
 }
 
-/// The answer for the files that a question names.
+/// The answer for the files that a question names. The long file is read first; that of new prices is read where bounds
+/// are asked and the long file is accepted.
 pub(crate) fn answer_files<D: Desk>(
     alloc: Global,
     desk: &mut D,
     question: &Question<'_>,
 ) -> Result<Answer, Cause>
-    ensures written { IfOk result (λ answer. IsTextOfKnown question.now (D.bytes desk.old)
+    ensures written { IfOk result (λ answer. AnswersWith question.now (D.bytes desk.old)
         answer.text.items answer.told.items) }
     ensures caused { IfErr result (IsCauseOf question.now (D.bytes desk.old)
         (D.faults desk.old) (D.faults desk.new)) }
+    ensures turns { AreReadInTurn (D.bytes desk.old) (D.calls desk.old) (D.calls desk.new)
+        question.now }
+    ensures names { AreAskedInTurn (D.bytes desk.old) (D.asked desk.old) (D.asked desk.new)
+        question.now }
     ensures bytes_stay { EachStays (D.bytes desk.old) (D.bytes desk.new) }
+    ensures never_falls { NoneFalls (D.faults desk.old) (D.faults desk.new) }
 {
     match load_file(alloc, desk, question.file(), BYTES) {
-        Ok(bytes) => answer_bytes(alloc, desk, question, bytes.as_slice()),
+        Ok(long) => answer_long(alloc, desk, question, long.as_slice()),
         Err(cause) => Err(cause),
     }
 }
@@ -84,7 +93,12 @@ fn load_file<D: Desk>(alloc: Global, desk: &mut D, name: &str, limit: u64) -> Re
     ensures counted { IfOk result (λ _. EachStays (D.faults desk.old) (D.faults desk.new)) }
     ensures caused { IfErr result (IsLoadCause name.now limit (D.bytes desk.old name.now)
         (HasRisen (D.faults desk.old name.now) (D.faults desk.new name.now))) }
+    ensures read_through { D.calls desk.new
+        ≤ D.calls desk.old + calls_through limit (D.bytes desk.old name.now) }
+    ensures asks_once { IfOk result (λ _. AsksOnce (D.asked desk.old) (D.asked desk.new) name.now) }
+    ensures asks_at_most_once { AsksAtMostOnce (D.asked desk.old) (D.asked desk.new) name.now }
     ensures bytes_stay { EachStays (D.bytes desk.old) (D.bytes desk.new) }
+    ensures never_falls { NoneFalls (D.faults desk.old) (D.faults desk.new) }
 {
     match load(alloc, desk, name, limit) {
         Ok(bytes) => Ok(bytes),
@@ -104,120 +118,148 @@ fn unread(alloc: Global, name: &str) -> Cause
     }
 }
 
-/// The answer for these bytes of the long file.
-fn answer_bytes<D: Desk>(
+/// The answer for these bytes of the long file. Where they are refused, no other file is read.
+fn answer_long<D: Desk>(
     alloc: Global,
     desk: &mut D,
     question: &Question<'_>,
-    bytes: &[u8],
+    long: &[u8],
 ) -> Result<Answer, Cause>
-    requires { length bytes.now ≤ BYTES }
-    ensures written { IfOk result (λ answer. IsTextOf question.now
+    requires { length long.now ≤ BYTES }
+    ensures written { IfOk result (λ answer. IsTextBeside question.now
         (D.bytes desk.old question.now.new_prices)
-        bytes.now answer.text.items answer.told.items) }
+        long.now answer.text.items answer.told.items) }
     ensures caused { IfErr result (IsFaultCause question.now
         (D.bytes desk.old question.now.new_prices)
         (HasRisen (D.faults desk.old question.now.new_prices)
-        (D.faults desk.new question.now.new_prices)) bytes.now) }
+        (D.faults desk.new question.now.new_prices)) long.now) }
+    ensures asks { AsksForNew question.now.bounds question.now.new_prices
+        (D.bytes desk.old question.now.new_prices)
+        (D.calls desk.old) (D.calls desk.new) (D.asked desk.old) (D.asked desk.new) }
+    ensures stops { IsFaulty question.now long.now → AsksForNone
+        (D.calls desk.old) (D.calls desk.new) (D.asked desk.old) (D.asked desk.new) }
     ensures bytes_stay { EachStays (D.bytes desk.old) (D.bytes desk.new) }
+    ensures never_falls { NoneFalls (D.faults desk.old) (D.faults desk.new) }
 {
-    match read_long_records(alloc, bytes) {
-        Ok(records) => answer_records(alloc, desk, question, &records),
-        Err(_) => Err(Cause::NoMemory),
+    let records = read_long_records(alloc, long)?;
+    match open_panel(alloc, question, &records) {
+        Ok(panel) => answer_beside(alloc, desk, question, &panel),
+        Err(cause) => Err(cause),
     }
 }
 
-/// The answer for these records.
-fn answer_records<D: Desk>(
+/// The panel of these records.
+fn open_panel<'a>(
     alloc: Global,
-    desk: &mut D,
     question: &Question<'_>,
-    records: &Records,
-) -> Result<Answer, Cause>
-    ensures written { IfOk result (λ answer. IsTextOfRecords question.now
-        (D.bytes desk.old question.now.new_prices) records.now answer.text.items answer.told.items) }
-    ensures caused { IfErr result (IsFaultOfRecords question.now
-        (D.bytes desk.old question.now.new_prices)
-        (HasRisen (D.faults desk.old question.now.new_prices)
-        (D.faults desk.new question.now.new_prices)) records.now) }
-    ensures bytes_stay { EachStays (D.bytes desk.old) (D.bytes desk.new) }
+    records: &'a Records,
+) -> Result<Households<'a>, Cause>
+    ensures denoted { IfOk result (λ panel. denoted_panel (id_name question.now) question.now.kept
+        records.now ≡ Ok panel) }
+    ensures refused { IfErr result (IsFaultOfRecords question.now records.now) }
 {
     match read_panel(alloc, records, question.id_name(), question.kept()) {
-        Ok(panel) => answer_panel(alloc, desk, question, &panel),
+        Ok(panel) => Ok(panel),
         Err(fault) if is_memory(fault) => Err(Cause::NoMemory),
         Err(fault) => Err(refused_for(alloc, question.file(), fault)),
     }
 }
 
-/// The answer for this panel.
-fn answer_panel<D: Desk>(
+/// The answer for this panel, beside the file of new prices where bounds are asked.
+fn answer_beside<D: Desk>(
     alloc: Global,
     desk: &mut D,
     question: &Question<'_>,
     panel: &Households<'_>,
 ) -> Result<Answer, Cause>
-    ensures written { IfOk result (λ answer. IsAnswerFor question.now
+    ensures written { IfOk result (λ answer. IsAnswerBeside question.now
         (D.bytes desk.old question.now.new_prices) panel.now answer.text.items answer.told.items) }
     ensures caused { IfErr result (IsNewCause question.now
         (D.bytes desk.old question.now.new_prices)
         (HasRisen (D.faults desk.old question.now.new_prices)
         (D.faults desk.new question.now.new_prices))) }
+    ensures asks { AsksForNew question.now.bounds question.now.new_prices
+        (D.bytes desk.old question.now.new_prices)
+        (D.calls desk.old) (D.calls desk.new) (D.asked desk.old) (D.asked desk.new) }
     ensures bytes_stay { EachStays (D.bytes desk.old) (D.bytes desk.new) }
+    ensures never_falls { NoneFalls (D.faults desk.old) (D.faults desk.new) }
+{
+    match load_new(alloc, desk, question) {
+        Ok(new) => {
+            let answer = answer_panel(alloc, question, new.as_slice(), panel)?;
+            Ok(answer)
+        }
+        Err(cause) => Err(cause),
+    }
+}
+
+/// The bytes of the file of new prices, or none where no bounds are asked.
+fn load_new<D: Desk>(alloc: Global, desk: &mut D, question: &Question<'_>) -> Result<Vec<u8>, Cause>
+    ensures whole { IfOk result (λ new. question.now.bounds ≢ None
+        → AreAll (D.bytes desk.old question.now.new_prices) new.items) }
+    ensures few { IfOk result (λ new. length new.items ≤ MOST_BYTES) }
+    ensures caused { IfErr result (IsNewCause question.now
+        (D.bytes desk.old question.now.new_prices)
+        (HasRisen (D.faults desk.old question.now.new_prices)
+        (D.faults desk.new question.now.new_prices))) }
+    ensures asks { AsksForNew question.now.bounds question.now.new_prices
+        (D.bytes desk.old question.now.new_prices)
+        (D.calls desk.old) (D.calls desk.new) (D.asked desk.old) (D.asked desk.new) }
+    ensures bytes_stay { EachStays (D.bytes desk.old) (D.bytes desk.new) }
+    ensures never_falls { NoneFalls (D.faults desk.old) (D.faults desk.new) }
+{
+    if question.bounds().is_none() {
+        return Ok(Vec::new(alloc));
+    }
+    load_file(alloc, desk, question.new_file(), MOST_BYTES)
+}
+
+/// The answer for this panel, at the new prices in these bytes where bounds are asked.
+fn answer_panel(
+    alloc: Global,
+    question: &Question<'_>,
+    new: &[u8],
+    panel: &Households<'_>,
+) -> Result<Answer, NoMemory>
+    requires { length new.now ≤ MOST_BYTES }
+    ensures { IfOk result (λ answer. IsAnswerFor question.now new.now panel.now
+        answer.text.items answer.told.items) }
 {
     let columns = panel.left_out(alloc)?;
     let told = left_out_lines(alloc, columns.as_slice())?;
-    let text = panel_text(alloc, desk, question, panel)?;
+    let text = panel_text(alloc, question, new, panel)?;
     Ok(Answer { text, told })
 }
 
 /// The text for this panel: that of its table, or of the bounds that are asked.
-fn panel_text<D: Desk>(
+fn panel_text(
     alloc: Global,
-    desk: &mut D,
     question: &Question<'_>,
+    new: &[u8],
     panel: &Households<'_>,
-) -> Result<Vec<u8>, Cause>
-    ensures written { IfOk result (λ text. IsTextBy question.now.bounds question.now
-        (D.bytes desk.old question.now.new_prices) panel.now text.items) }
-    ensures caused { IfErr result (IsNewCause question.now
-        (D.bytes desk.old question.now.new_prices)
-        (HasRisen (D.faults desk.old question.now.new_prices)
-        (D.faults desk.new question.now.new_prices))) }
-    ensures bytes_stay { EachStays (D.bytes desk.old) (D.bytes desk.new) }
+) -> Result<Vec<u8>, NoMemory>
+    requires { length new.now ≤ MOST_BYTES }
+    ensures { IfOk result (λ text. IsTextBy question.now.bounds question.now new.now panel.now
+        text.items) }
 {
     match question.bounds() {
-        Some(asked) => bounds_text(alloc, desk, question, asked, panel),
-        None => {
-            let text = table_text(alloc, question, panel)?;
-            Ok(text)
-        }
+        Some(asked) => bounds_text(alloc, question, asked, new, panel),
+        None => table_text(alloc, question, panel),
     }
 }
 
-/// The text of the bounds of this panel at the prices of the file of new ones.
-fn bounds_text<D: Desk>(
+/// The text of the bounds of this panel at the prices of these bytes, which are few enough.
+fn bounds_text(
     alloc: Global,
-    desk: &mut D,
     question: &Question<'_>,
     asked: BoundsAsked,
+    new: &[u8],
     panel: &Households<'_>,
-) -> Result<Vec<u8>, Cause>
-    requires { question.now.bounds ≡ Some asked }
-    ensures written { IfOk result (λ text. ForSome (D.bytes desk.old question.now.new_prices)
-        (AreBoundsAt question.now asked panel.now text.items)) }
-    ensures caused { IfErr result (IsNewCause question.now
-        (D.bytes desk.old question.now.new_prices)
-        (HasRisen (D.faults desk.old question.now.new_prices)
-        (D.faults desk.new question.now.new_prices))) }
-    ensures bytes_stay { EachStays (D.bytes desk.old) (D.bytes desk.new) }
+) -> Result<Vec<u8>, NoMemory>
+    requires { length new.now ≤ MOST_BYTES }
+    ensures { IfOk result (λ text. AreBoundsAt question.now asked panel.now text.items new.now) }
 {
-    match load_file(alloc, desk, question.new_file(), MOST_BYTES) {
-        Ok(new) => {
-            let text = bounds_text_at(alloc, question, asked, new.as_slice(), panel)?;
-            Ok(text)
-        }
-        Err(cause) => Err(cause),
-    }
+    bounds_text_at(alloc, question, asked, new, panel)
 }
 
 /// The text of the bounds of this panel at the prices of these bytes.

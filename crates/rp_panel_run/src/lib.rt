@@ -2,6 +2,7 @@
 #![tactic(auto)]
 
 mod answer;
+mod laws;
 mod number;
 mod question;
 mod running;
@@ -9,6 +10,7 @@ mod status;
 mod telling;
 mod words;
 
+pub use laws::not_everything_answers_or_refuses;
 pub use running::run_panel;
 pub use status::Status;
 pub use telling::unread_line;

@@ -1,10 +1,12 @@
 //! A call of the program: its words, the table of the files that they name, and what is written and told.
 ghost use Rattle.std.specs.Prelude.{◌≡◌, ◌≢◌, ◌⊎◌, ◌≤◌, ℕ, List, None, Some, map, string_bytes};
-ghost use Rattle.rp_outside.specs.Faults.{EachStays, HasRisen};
+ghost use Rattle.rp_outside.specs.Faults.{EachStays, HasRisen, NoneFalls};
 ghost use Rattle.rp_outside.specs.Known.{Grows, GrowsByPrefix, Stays};
-ghost use Rattle.rp_panel_run.specs.Endings.{IsRefusedKnown, IsTextOfKnown, IsUnread};
+ghost use Rattle.rp_panel_run.specs.Endings.{AnswersWith, IsAccepted, IsRefused, IsUnread};
+ghost use Rattle.rp_panel_run.specs.Endings.{NoneRose, RefusesWith};
 ghost use Rattle.rp_panel_run.specs.Questions.{Asking, asking_in};
 ghost use Rattle.rp_panel_run.specs.Told.{Gains, GainsBoth, memory_line, usage_line, write_line};
+ghost use Rattle.rp_panel_run.specs.Turns.{AsksByName, AsksInTurn};
 
 use crate::Status;
 use crate::answer::{Answer, Cause, answer_files};
@@ -39,14 +41,14 @@ pub fn run_panel<D: Desk, O: Sink, E: Sink>(
     // The table.
     ensures written { result ≡ Status.Done → (a : Asking) × (text : List ℕ) × (told : List ℕ)
         × (asking_in (map string_bytes words.now.items) ≡ Some a)
-        × IsTextOfKnown a (D.bytes desk.old) text told
+        × AnswersWith a (D.bytes desk.old) text told
         × Grows (O.written out.old) (O.written out.new) text
         × Gains (E.written err.old) (E.written err.new)
         (E.faults err.old) (E.faults err.new) told }
     ensures cut_short { result ≡ Status.WriteFault
         → (a : Asking) × (text : List ℕ) × (told : List ℕ)
         × (asking_in (map string_bytes words.now.items) ≡ Some a)
-        × IsTextOfKnown a (D.bytes desk.old) text told
+        × AnswersWith a (D.bytes desk.old) text told
         × GrowsByPrefix (O.written out.old) (O.written out.new) text
         × HasRisen (O.faults out.old) (O.faults out.new)
         × GainsBoth (E.written err.old) (E.written err.new)
@@ -57,7 +59,7 @@ pub fn run_panel<D: Desk, O: Sink, E: Sink>(
     // Why there is none.
     ensures refused { result ≡ Status.Refused → (a : Asking) × (line : List ℕ)
         × (asking_in (map string_bytes words.now.items) ≡ Some a)
-        × IsRefusedKnown a (D.bytes desk.old) line
+        × RefusesWith a (D.bytes desk.old) line
         × Gains (E.written err.old) (E.written err.new)
         (E.faults err.old) (E.faults err.new) line }
     ensures read_fault { result ≡ Status.ReadFault → (a : Asking) × (line : List ℕ)
@@ -68,8 +70,29 @@ pub fn run_panel<D: Desk, O: Sink, E: Sink>(
     ensures no_memory { result ≡ Status.NoMemory → Gains (E.written err.old) (E.written err.new)
         (E.faults err.old) (E.faults err.new) memory_line }
 
+    // When there is one.
+    ensures complete { (a : Asking) → asking_in (map string_bytes words.now.items) ≡ Some a
+        → IsAccepted a (D.bytes desk.old)
+        → NoneRose a (D.faults desk.old) (D.faults desk.new)
+        → ¬ HasRisen (O.faults out.old) (O.faults out.new)
+        → (result ≡ Status.Done) ⊎ (result ≡ Status.NoMemory) }
+    ensures refuses { (a : Asking) → asking_in (map string_bytes words.now.items) ≡ Some a
+        → IsRefused a (D.bytes desk.old)
+        → NoneRose a (D.faults desk.old) (D.faults desk.new)
+        → (result ≡ Status.Refused) ⊎ (result ≡ Status.NoMemory) }
+
+    // How often the desk is asked for the files of the words, and in which order.
+    ensures turns { AsksInTurn (D.bytes desk.old) (D.calls desk.old) (D.calls desk.new)
+        (asking_in (map string_bytes words.now.items)) }
+
+    // For which names, and each once.
+    ensures names { AsksByName (D.bytes desk.old) (D.asked desk.old) (D.asked desk.new)
+        (asking_in (map string_bytes words.now.items)) }
+
     // What stays.
     ensures bytes_stay { EachStays (D.bytes desk.old) (D.bytes desk.new) }
+    ensures files_counts { NoneFalls (D.faults desk.old) (D.faults desk.new) }
+    ensures out_counts { O.faults out.old ≤ O.faults out.new }
     ensures err_counts { E.faults err.old ≤ E.faults err.new }
 {
     let Ok(asked) = read_words(alloc, words.as_slice()) else {
@@ -109,6 +132,7 @@ fn finish<O: Sink, E: Sink>(answer: &Answer, out: &mut O, err: &mut E) -> Status
         × HasRisen (O.faults out.old) (O.faults out.new)
         × GainsBoth (E.written err.old) (E.written err.new)
         (E.faults err.old) (E.faults err.new) answer.now.told.items write_line }
+    ensures out_counts { O.faults out.old ≤ O.faults out.new }
     ensures err_counts { E.faults err.old ≤ E.faults err.new }
 {
     tell(err, answer.told.as_slice());

@@ -9,7 +9,11 @@ mod calls;
 #[cfg(test)]
 mod files;
 #[cfg(test)]
+mod household_faults;
+#[cfg(test)]
 mod names;
+#[cfg(test)]
+mod order;
 #[cfg(test)]
 mod running;
 #[cfg(test)]

@@ -41,7 +41,7 @@ pub(crate) const CALM: Failures<'static> = Failures {
 };
 
 /// The program's name and these words.
-fn owned_words(alloc: Global, words: &[&str]) -> Result<Vec<String>, Fail> {
+pub(crate) fn owned_words(alloc: Global, words: &[&str]) -> Result<Vec<String>, Fail> {
     let mut all = Vec::new(alloc);
     all.push(String::from_str(alloc, "rp-panel")?)?;
     for word in words {
@@ -59,7 +59,11 @@ fn file(alloc: Global, name: &str, text: &str) -> Result<MemFile, Fail> {
 }
 
 /// The file `l.csv` of the first text, and `n.csv` of the second, where there is one.
-fn files_with(alloc: Global, text: &str, new: Option<&str>) -> Result<Vec<MemFile>, Fail> {
+pub(crate) fn files_with(
+    alloc: Global,
+    text: &str,
+    new: Option<&str>,
+) -> Result<Vec<MemFile>, Fail> {
     let mut files = Vec::new(alloc);
     files.push(file(alloc, "l.csv", text)?)?;
     if let Some(new) = new {
