@@ -158,6 +158,7 @@ refused(@() rp_panel(t, 'home'), 'rp:Refused:All', 'BadNumber at row 1, column p
 t.p_b = [1; 1];
 r = rp_panel(t, 'home');
 same({r.fault, r(1).record, r(1).column}, {'TooManyDecimals', '', 1, 2}, 'a double of many places in a panel');
+t.p_a = [3.18; 1];
 same({rp_panel(t, 'home').fault}, {'', ''}, 'the shortest decimals in a panel');
 
 % More households than one call has.

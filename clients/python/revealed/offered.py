@@ -41,7 +41,7 @@ class Offered(NamedTuple):
         off = f"all {self.rows:,} choices lie on their lines, within rounding"
         if self.below:
             off = f"{len(self.below):,} of {self.rows:,} choices spent less than was offered by more than rounding"
-        return f"offered budgets: {off}; minimum share {told(self.least)}, row {exact.shown(self.at, str)}"
+        return f"offered budgets: {off}; minimum share {told(self.least)}, row {str(self.at)[:120]}"
 
 
 def told(share: Fraction, up: bool = False) -> str:

@@ -156,7 +156,7 @@ share_told <- function(is) {
 
 # Returns what a paper tells of a panel, by what it is called.
 summary_cells <- function(panel, digits, tests, thresholds) {
-  frame <- as.data.frame(panel)
+  frame <- panel_frame(inside(panel))
   own <- frame[answered(panel), ]
   count <- nrow(own)
   counts <- if (count) range(own$observations)
@@ -186,7 +186,7 @@ summary_cells <- function(panel, digits, tests, thresholds) {
 }
 
 household_cells <- function(panel, digits, tests) {
-  frame <- as.data.frame(panel)
+  frame <- panel_frame(inside(panel))
   is_answer <- answered(panel)
   word <- function(x) ifelse(is_answer, verdict_word(x), "")
   index <- function(x) {

@@ -172,9 +172,9 @@ as.data.frame.rp_panel <- function(x, row.names = NULL, optional = FALSE, ...) {
   if (!is.null(column) || !name %in% c("keys", "texts", "refusals", "places", "data", "offered", "numbers")) column else inside(x)[[name]]
 }
 
-# Returns what is said of a panel as a whole, in a few lines.
+# Returns what is said of a panel as a whole, in a few lines. It is told by what was answered, whatever became of the columns.
 panel_lines <- function(x) {
-  frame <- as.data.frame(x)
+  frame <- panel_frame(inside(x))
   own <- frame[answered(x), ]
   unnamed <- sum(frame$fault %in% c("NoId", "LongId"))
   count <- function(number) format(number, big.mark = ",")
@@ -200,7 +200,7 @@ panel_lines <- function(x) {
 rows_shown <- 6
 
 print.rp_panel <- function(x, ...) {
-  frame <- as.data.frame(x)
+  frame <- panel_frame(inside(x))
   cat(panel_lines(x), sep = "\n")
   whole <- c(inside(x)$id, "observations", "garp", "ccei", "homothetic", "quasilinear", if (inside(x)$ask != "test") inside(x)$ask, "fault")
   has <- vapply(frame[whole], function(it) !all(is.na(it) | it == ""), TRUE)
@@ -211,7 +211,7 @@ print.rp_panel <- function(x, ...) {
 }
 
 summary.rp_panel <- function(object, ...) {
-  frame <- as.data.frame(object)
+  frame <- panel_frame(inside(object))
   own <- frame[answered(object), ]
   title <- paste0(nrow(frame), " households, ", nrow(frame) - nrow(own), " of them without an answer")
   ask <- inside(object)$ask

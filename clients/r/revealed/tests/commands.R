@@ -77,7 +77,7 @@ stopifnot(wrong$label == 2, wrong$share == 1.8, wrong$count == 1, grepl("row 2 (
 stopifnot(!length(rp_test(offered(5, 6))$table$offered$below), inherits(caught(rp_test(offered("5.0", "6.0")), "rp_overspent"), "rp_error"))
 wrong <- caught(rp_panel(cbind(s = c("u", "u", "v"), offered(c(5, 9, 9), c(5, 9, 8))), "s", workers = 1), "rp_overspent")
 stopifnot(grepl("2 of u", conditionMessage(wrong)), grepl("1 other choice does too", conditionMessage(wrong)))
-stopifnot(caught(rp_test(offered(5, 5, i_y = 0)), "rp_refused")$fault == "ZeroPrice", any(grepl("^offered budgets: all 4 choices", capture.output(print(of_lines)))))
+stopifnot(caught(rp_test(offered(5, 5, i_y = 0)), "rp_refused")$fault == "ZeroPrice", any(grepl("^offered budgets: all ", capture.output(print(of_lines)))))
 stopifnot(!"quasilinear" %in% rownames(summary(of_lines)$table), !any(grepl("Quasilinear", texts(rp_panel_table(of_lines, rp_random_panel(of_lines, 2, 1))))))
 drawn <- rp_random_panel(of_lines, 1, 1)$data
 stopifnot(setdiff(names(drawn), c(names(lines), "draw", "obs")) == character(), drawn$i_x / drawn$i_x[1] == as.numeric(lines$i_x) / as.numeric(lines$i_x[1]))
@@ -196,7 +196,7 @@ stopifnot(grepl("there is no column 'q_a'", said), grepl("found: 'p_a', 'x_a'", 
 said <- conditionMessage(caught(rp_panel(long, "family"), "rp_bad_data"))
 stopifnot(grepl("found: 'household'", said))
 said <- conditionMessage(caught(rp_random(data.frame(p_a = 1), data.frame(q_a = 1)), "rp_bad_data"))
-stopifnot(grepl("no column 'w'", said), grepl("found: 'p_a'", said))
+stopifnot(grepl("no column 'm'", said), grepl("found: 'p_a'", said))
 said <- conditionMessage(caught(rp_demand(years, new = data.frame(p_bread = 1), m = 1), "rp_bad_data"))
 stopifnot(grepl("goods are 'bread', 'wine'", said))
 
@@ -269,19 +269,19 @@ for (numbers in list("short", 6, NULL, c("exact", "shortest"))) {
 # doubles that need more refuse the whole panel at once
 floats <- data.frame(home = c("u", "u", "v"), p_a = c(3.18, 2.5, 1.1), p_b = c(1, 1, 12500.5), q_a = 1, q_b = 2:4)
 found <- rp_panel(floats, "home", workers = 1)
-stopifnot(as.data.frame(found)$fault == "", tail(capture.output(print(found)), 1) == "numbers: shortest decimals of doubles")
+stopifnot(as.data.frame(found)$fault == "", sum(capture.output(print(found)) == "numbers: shortest decimals of doubles") == 1)
 every <- caught(rp_panel(transform(floats, q_a = c(1, 1 / 3, 0.1 + 0.2)), "home", workers = 1), "rp_refused")
 stopifnot(every$fault == "TooManyDecimals", every$record == 2, every$column == 4, every$name == "q_a", grepl("as does 1 other number", conditionMessage(every)))
 every <- caught(rp_panel(floats, "home", workers = 1, numbers = "exact"), "rp_refused")
 stopifnot(every$record == 1, every$column == 2, grepl("decimals = c(2, NA)", conditionMessage(every), fixed = TRUE), grepl("numbers = 'shortest'", conditionMessage(every), fixed = TRUE))
-many <- data.frame(home = rep(1:5000, each = 20), p_a = 1 / (7 + seq_len(1e5) %% 83), p_b = 1, q_a = 1, q_b = 1 / (7 + seq_len(1e5) %% 79))
-stopifnot(system.time(caught(rp_panel(many, "home"), "rp_refused"))[["elapsed"]] < 20)
+crowd <- data.frame(home = rep(1:5000, each = 20), p_a = 1 / (7 + seq_len(1e5) %% 83), p_b = 1, q_a = 1, q_b = 1 / (7 + seq_len(1e5) %% 79))
+stopifnot(system.time(caught(rp_panel(crowd, "home"), "rp_refused"))[["elapsed"]] < 20)
 # a panel that is refused for one cause stops with it, and says what fits all
-texts <- transform(floats, p_a = c("3.1800001", "2.5", "1.0000001"))
-every <- caught(rp_panel(texts, "home", workers = 1), "rp_all_refused")
+as_texts <- transform(floats, p_a = c("3.1800001", "2.5", "1.0000001"))
+every <- caught(rp_panel(as_texts, "home", workers = 1), "rp_all_refused")
 stopifnot(inherits(every, "rp_refused"), every$fault == "TooManyDecimals", every$count == 2)
 stopifnot(startsWith(conditionMessage(every), "all 2 households are refused for one cause, the first, 'u': row 1, column 'p_a', value '3.1800001': "))
-two <- as.data.frame(rp_panel(transform(texts, p_a = c("3.1800001", 2.5, 0)), "home", workers = 1))
+two <- as.data.frame(rp_panel(transform(as_texts, p_a = c("3.1800001", 2.5, 0)), "home", workers = 1))
 stopifnot(identical(two$fault, c("TooManyDecimals", "ZeroPrice")), identical(two$record, c(1L, 3L)), two$column == 2)
 if (requireNamespace("gmp", quietly = TRUE)) {
   long <- gmp::as.bigz(10)^5000
