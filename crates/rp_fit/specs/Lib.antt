@@ -1,0 +1,9 @@
+pub mod Violations
+pub mod Kept
+pub mod Fractions
+pub mod Levels
+pub mod RespectingRanks
+pub mod Steps
+pub mod WalkSums
+pub mod QuasilinearLevel
+pub mod HomotheticLevel
