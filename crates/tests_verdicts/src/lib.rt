@@ -1,10 +1,13 @@
 //! Tests of revealed preference, steps, closures and shortest walks, at one level for all and at levels of the
-//! observations' own; and of verdicts on costs, with and without evidence, and of what they stand on: the axiom, Afriat
-//! numbers and utilities, the index with its search by halving, and walks with totals.
+//! observations' own; of verdicts on costs, with and without evidence, and of what they stand on: the axiom, Afriat
+//! numbers and utilities, the index with its search by halving, and walks with totals; and of demand at new prices and
+//! the welfare bounds.
 #![tactic(auto)]
 
 #[cfg(test)]
 mod afriat;
+#[cfg(test)]
+mod bounds;
 #[cfg(test)]
 mod closure_levels;
 #[cfg(test)]

@@ -5,7 +5,7 @@ ghost use Rattle.std.specs.Prelude.{All};
 ghost use Rattle.rp_evidence.specs.Kinds.{IsOfKind};
 ghost use Rattle.rp_evidence.specs.declared.certificate.Kind.TheVariants.{Random as RandomKind};
 
-use crate::forged::{alone, assert_text, certificate, followed, item_of, patches_of};
+use crate::mixtures::forged::{alone, assert_text, certificate, followed, item_of, patches_of};
 use rp_check::{Verdict, check_random_within};
 use rp_check_mixture::check_choices_within;
 use rp_evidence::Item;

@@ -1,5 +1,5 @@
 //! Mixtures of rational types that are generated, and where there is none.
-use crate::told::{Ask, assert_each, share_text};
+use crate::mixtures::told::{Ask, assert_each, share_text};
 use rp_generated::generated;
 use rp_limits::generated::PATCHES;
 use rp_patch::of_choices::patches_within;

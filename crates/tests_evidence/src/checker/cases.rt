@@ -3,8 +3,8 @@ ghost use Rattle.std.specs.Prelude.{All, IsTrue};
 ghost use Rattle.rp_evidence.specs.Kinds.{IsOfKind};
 ghost use Rattle.rp_evidence.specs.declared.certificate.Kind.TheVariants.{Table as TableKind};
 
-use crate::forged::{Forged, item_of};
-use crate::items::at;
+use crate::checker::forged::{Forged, item_of};
+use crate::checker::items::at;
 use rp_check::{Verdict, check};
 use rp_evidence::{Certificate, Item, Kind, Reason};
 use rp_num::Seq;

@@ -1,5 +1,5 @@
 //! Mixtures of rational types, and where there is none.
-use crate::told::{Ask, assert_each};
+use crate::mixtures::told::{Ask, assert_each};
 use std::test::Fail;
 use tests_inputs::choices::{CROSSED, ONE_BUDGET};
 

@@ -1,5 +1,5 @@
 //! Patches and their units.
-use crate::told::{Ask, assert_each, assert_told};
+use crate::mixtures::told::{Ask, assert_each, assert_told};
 use std::test::Fail;
 use tests_inputs::choices::{CROSSED, IRRATIONAL, ONE_BUDGET};
 

@@ -1,5 +1,5 @@
 //! Evidence on demand and welfare, of whatever origin.
-use crate::items::list;
+use crate::checker::items::list;
 use rp_evidence::{Bound, DemandPart, GoodBounds, Item, Point, WelfarePart};
 use rp_farkas::{Entry, Pair};
 use rp_num::{Frac, Seq};

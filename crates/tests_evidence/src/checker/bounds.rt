@@ -1,6 +1,6 @@
 //! Forged evidence on demand and welfare, with the clause that it fails first.
-use crate::cases::{Case, assert_answers};
-use crate::forged::Forged::{
+use crate::checker::cases::{Case, assert_answers};
+use crate::checker::forged::Forged::{
     Goods, NoDemand, NoGoods, NoWelfare, Points, Welfare, WideGoods, WideWelfare,
 };
 use rp_evidence::Reason::{Bound, Least, NoGarp, NotWeak, Number, Point, Set, Shape};

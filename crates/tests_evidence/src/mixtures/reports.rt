@@ -3,7 +3,7 @@ ghost use Rattle.std.specs.Prelude.{◌≤◌, All, IfSome};
 ghost use Rattle.rp_evidence.specs.Kinds.{IsOfKind};
 ghost use Rattle.rp_evidence.specs.declared.certificate.Kind.TheVariants.{Random as RandomKind};
 
-use crate::forged::{alone, assert_text, certificate, followed, patches_of};
+use crate::mixtures::forged::{alone, assert_text, certificate, followed, patches_of};
 use rp_check::{Verdict, check_random};
 use rp_evidence::Item;
 use rp_limits::patch::UNITS;

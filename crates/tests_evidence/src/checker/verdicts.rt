@@ -1,6 +1,6 @@
 //! Forged cycles, ranks, Afriat numbers and indices, with the clause that they fail first.
-use crate::cases::{Case, assert_answers};
-use crate::forged::Forged::{Cycle, Index, LevelOf, Model, NoModel, Ranks};
+use crate::checker::cases::{Case, assert_answers};
+use crate::checker::forged::Forged::{Cycle, Index, LevelOf, Model, NoModel, Ranks};
 use rp_evidence::Reason::{Level, NoStrict, NotClosed, NotWeak, Number, Order, Shape};
 use std::test::Fail;
 use tests_inputs::tables::{ALONE, APART, CONTRADICTION, EQUAL, MORE_AND_LESS, NINE_TENTHS};

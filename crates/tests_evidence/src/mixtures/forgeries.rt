@@ -1,5 +1,7 @@
 //! Forged evidence on random choices.
-use crate::forged::{answer, assert_answers, assert_text, followed, item_of, patches_of, withheld};
+use crate::mixtures::forged::{
+    answer, assert_answers, assert_text, followed, item_of, patches_of, withheld,
+};
 use rp_patch::Patches;
 use std::alloc::Global;
 use std::test::Fail;

@@ -1,6 +1,6 @@
 //! Evidence on a table, of whatever origin.
-use crate::bound::{demand, goods, no_demand, no_welfare, shown, true_goods, welfare};
-use crate::items::{at, list};
+use crate::checker::bound::{demand, goods, no_demand, no_welfare, shown, true_goods, welfare};
+use crate::checker::items::{at, list};
 use rp_evidence::{AfriatPart, Bound, Efficiency, Garp, Homothetic, Item, Level, Numbers, Quasi};
 use rp_num::{Frac, Seq};
 use std::alloc::Global;

@@ -1,5 +1,5 @@
 //! Tests of the bounds on the money metric at new prices, with the pair of the lower one.
-use crate::shared::{are_prices, push_list, push_number, push_numbers};
+use crate::bounds::shared::{are_prices, push_list, push_number, push_numbers};
 use rp_evidence::{Bound, WelfarePart};
 use rp_farkas::{Entry, Pair};
 use rp_garp::GarpTest;

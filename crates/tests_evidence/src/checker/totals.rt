@@ -1,8 +1,8 @@
 //! Forged values and walks of the homothetic and the quasilinear test, with the clause that each fails first; several
 //! items.
-use crate::cases::{Answer, Case, answer, assert_answer, assert_answers};
-use crate::forged::Forged::{Falling, Negative, Products, Sums};
-use crate::items::list;
+use crate::checker::cases::{Answer, Case, answer, assert_answer, assert_answers};
+use crate::checker::forged::Forged::{Falling, Negative, Products, Sums};
+use crate::checker::items::list;
 use rp_evidence::Reason::{NotClosed, NotLess, Number, Order, Shape, Wide};
 use rp_evidence::{AfriatPart, Garp, Homothetic, Item, Quasi};
 use rp_num::Seq;

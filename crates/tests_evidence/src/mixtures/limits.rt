@@ -1,5 +1,5 @@
 //! Both sides of each limit, as near to it as budgets and choices come.
-use crate::told::{Ask, assert_each, assert_told};
+use crate::mixtures::told::{Ask, assert_each, assert_told};
 use std::alloc::{AllocError, Global};
 use std::process::Abort;
 use std::test::Fail;

@@ -1,5 +1,5 @@
 //! Tests of demand at new prices: the supporting demand, the observations below, and the bounds of each good.
-use crate::shared::{are_prices, push_list, push_number, push_numbers};
+use crate::bounds::shared::{are_prices, push_list, push_number, push_numbers};
 use rp_evidence::{Bound, DemandPart, GoodBounds, Point};
 use rp_garp::GarpTest;
 use rp_num::Frac;

@@ -2,7 +2,7 @@
 ghost use Rattle.std.specs.Prelude.{◌≤◌};
 ghost use Rattle.rp_limits.specs.declared.generated.TheConstants.{PATCHES};
 
-use crate::told::told_fault;
+use crate::mixtures::told::told_fault;
 use rp_patch::of_choices::patches_within;
 use rp_text::{read_budgets, read_choices};
 use std::alloc::{AllocError, Global};
