@@ -108,7 +108,7 @@ impl<'a> Households<'a> {
     {
         let rows = self.groups.members(h);
         if rows.len() > RECORDS as usize {
-            return Err(TableFault::NoMemory);
+            return Err(TableFault::TooManyRecords);
         }
         let columns = self.columns.table();
         let records = self.records.selected(alloc, rows, columns)?;

@@ -9,6 +9,7 @@ use Rattle.rp_bound_rows.specs.declared.asked.BoundsAsked.{BoundsAsked}
 use Rattle.rp_bounds_panel.specs.BoundsText.{unnamed_row as bound_unnamed}
 use Rattle.rp_limits.specs.declared.run.TheConstants.{MOST_BYTES}
 use Rattle.rp_long.specs.Panels.{Panel}
+use Rattle.rp_long.specs.declared.fault.LongFault.{LongFault}
 use Rattle.rp_outside.specs.Faults.{HasRisen}
 use Rattle.rp_panel.specs.PanelText.{unnamed_row}
 use Rattle.rp_rows.specs.RowText.{header_fields, line_of_row, panel_writer}
@@ -29,10 +30,32 @@ pub few_new : (bounds : Option BoundsAsked) (a : Asking) (new : List ℕ) (panel
 few_new None a new panel text is some = absurd (some refl)
 few_new (Some asked) a new panel text is some = is.few
 
-text_refused : (a : Asking) (held : Contents) (text told line : List ℕ) → IsTextOf a held text told → IsRefusal a held line → ⊥
+pub text_refused : (a : Asking) (held : Contents) (text told line : List ℕ) → IsTextOf a held text told → IsRefusal a held line → ⊥
 text_refused a held text told line is (inl (inl long)) = omega (arith, is.few, long.many)
 text_refused a held text told line is (inl (inr fault)) = let denoted = is.denoted in let refused = fault.denoted in cc
 text_refused a held text told line is (inr new) = omega (arith, few_new a.bounds a held.new is.panel text is.answers.is_text new.asked, new.many)
+
+pub one_telling : (a : Asking) (held : Contents) (text told other_text other : List ℕ) → IsTextOf a held text told → IsTextOf a held other_text other → told ≡ other
+one_telling a held text told other_text other is also =
+    let denoted = is.denoted in
+    let again = also.denoted in
+    let same : is.panel ≡ also.panel = cc in
+    is.answers.is_told ∙ ap (λ (p : Panel). left_out_lines p.left_out) same ∙ sym also.answers.is_told
+
+pub one_line : (a : Asking) (held : Contents) (line other : List ℕ) → IsRefusal a held line → IsRefusal a held other → line ≡ other
+one_line a held line other (inl (inl long)) (inl (inl also)) = long.tells ∙ sym also.tells
+one_line a held line other (inl (inl long)) (inl (inr fault)) = absurd (omega (arith, long.many, fault.few))
+one_line a held line other (inl (inl long)) (inr new) = absurd (omega (arith, long.many, new.accepted.few))
+one_line a held line other (inl (inr fault)) (inl (inl long)) = absurd (omega (arith, long.many, fault.few))
+one_line a held line other (inl (inr fault)) (inl (inr also)) =
+    let denoted = fault.denoted in
+    let again = also.denoted in
+    let same : fault.fault ≡ also.fault = cc in
+    fault.tells ∙ ap (λ (f : LongFault). file_line a.file (long_fault_text f)) same ∙ sym also.tells
+one_line a held line other (inl (inr fault)) (inr new) = let denoted = fault.denoted in let accepted = new.accepted.denoted in cc
+one_line a held line other (inr new) (inl (inl long)) = absurd (omega (arith, long.many, new.accepted.few))
+one_line a held line other (inr new) (inl (inr fault)) = let denoted = fault.denoted in let accepted = new.accepted.denoted in cc
+one_line a held line other (inr new) (inr also) = new.tells ∙ sym also.tells
 
 pub refused_answered : (a : Asking) (files : Files) (text told : List ℕ) → IsRefused a files → AnswersWith a files text told → ⊥
 refused_answered a files text told refused (held, contents, is) =

@@ -43,7 +43,8 @@ IsFaultCause a new rose bytes (cause.Refused line) =
     HasFault a bytes line.items ⊎ (IsPanelFile a bytes × IsNewCause a new rose (cause.Refused line))
 IsFaultCause a new rose bytes cause.NoMemory = ⊤
 
--- the text, and what is told, answer a question over these bytes of the long file and some content of that of new prices
+-- the text, and what is told, answer a question over these bytes of the long file and some content of that of new
+-- prices
 abbrev pub IsTextBeside : Asking → Option (List ℕ) → List ℕ → List ℕ → List ℕ → Type 0
 IsTextBeside a known long text told = (new : List ℕ) × (a.bounds ≢ None → AreAll known new)
     × IsTextOf a (record { long = long; new = new }) text told

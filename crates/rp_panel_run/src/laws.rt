@@ -1,7 +1,8 @@
-//! What answers and refusals are not, also over files of which nothing is known. The function is empty: its contract is
-//! the law.
+//! Laws of answers and refusals, also over files of which nothing is known. Each function is empty: its contract is the
+//! law.
 ghost use Rattle.std.specs.Prelude.{◌≡◌, ℕ, List, [], ◌∷◌};
-ghost use Rattle.rp_panel_run.specs.Endings.{AnswersWith, Files, RefusesWith};
+ghost use Rattle.rp_panel_run.specs.Endings.{AnswersWith, Contents, Files, IsRefusal, IsTextOf};
+ghost use Rattle.rp_panel_run.specs.Endings.{RefusesWith};
 ghost use Rattle.rp_panel_run.specs.Questions.{Asking};
 
 /// Not every text answers a question and not every line refuses it, whatever is known of its files: no empty text is an
@@ -12,4 +13,15 @@ pub fn not_everything_answers_or_refuses()
     ensures no_other_telling { (a : Asking) (files : Files) (text told : List ℕ) (byte : ℕ)
         → ¬ (byte ≡ 114) → ¬ AnswersWith a files text (byte ∷ told) }
     ensures no_empty_line { (a : Asking) (files : Files) → ¬ RefusesWith a files [] }
+{}
+
+/// The bytes of the files decide whether a question is answered or refused, what is told beside an answer, and the line
+/// of a refusal.
+pub fn bytes_decide_what_is_told()
+    ensures never_both { (a : Asking) (held : Contents) (text told line : List ℕ)
+        → IsTextOf a held text told → ¬ IsRefusal a held line }
+    ensures one_telling { (a : Asking) (held : Contents) (text told other_text other : List ℕ)
+        → IsTextOf a held text told → IsTextOf a held other_text other → told ≡ other }
+    ensures one_line { (a : Asking) (held : Contents) (line other : List ℕ)
+        → IsRefusal a held line → IsRefusal a held other → line ≡ other }
 {}
