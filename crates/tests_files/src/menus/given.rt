@@ -1,5 +1,5 @@
 //! What a file of choices from menus comes to, in a line.
-use crate::evidence::assert_unit;
+use crate::menus::evidence::assert_unit;
 use rp_menu::{MenuFault, Menus, read_menus};
 use rp_patch::apportionment::Units;
 use rp_patch::{ApportionFault, apportion};

@@ -1,9 +1,9 @@
 //! What is found of worked choices, which the check accepts.
 ghost use Rattle.rp_orders.specs.OrderMixtures.{AreUnitsOf};
 
-use crate::cases::{Asked, assert_told};
-use crate::evidence::menus_of;
-use crate::given::push;
+use crate::menus::cases::{Asked, assert_told};
+use crate::menus::evidence::menus_of;
+use crate::menus::given::push;
 use rp_evidence::Share;
 use rp_menu::Menus;
 use rp_orders::{MenuPart, check_menu, menus};

@@ -1,5 +1,5 @@
 //! Tests of how many records a file may have: as many as the limit, and one more.
-use crate::reading::{Reader, assert_told};
+use crate::readers::reading::{Reader, assert_told};
 use std::alloc::{AllocError, Global};
 use std::process::Abort;
 use std::test::Fail;

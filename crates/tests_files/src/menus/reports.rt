@@ -1,6 +1,6 @@
 //! The report on evidence of whatever origin that passes the check.
-use crate::cases::{Asked, assert_told};
-use crate::evidence::Evidence;
+use crate::menus::cases::{Asked, assert_told};
+use crate::menus::evidence::Evidence;
 use std::test::Fail;
 
 /// Three units, of which a has one and b two.

@@ -1,5 +1,5 @@
 //! The units of cells.
-use crate::cases::{Asked, assert_text, assert_told};
+use crate::menus::cases::{Asked, assert_text, assert_told};
 use rp_patch::ApportionFault;
 use std::test::Fail;
 

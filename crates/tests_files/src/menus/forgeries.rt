@@ -1,7 +1,7 @@
 //! Evidence in which one clause alone is broken, and whether it is accepted.
-use crate::cases::assert_accepts;
-use crate::evidence::Evidence::{Mixture, Violation, Withheld};
-use crate::evidence::{Evidence, Parts};
+use crate::menus::cases::assert_accepts;
+use crate::menus::evidence::Evidence::{Mixture, Violation, Withheld};
+use crate::menus::evidence::{Evidence, Parts};
 use std::test::Fail;
 
 /// The greatest number that a linear program may give, 2^63 - 1.

@@ -1,6 +1,6 @@
 //! Tests of the column of levels: where it stands, what it may hold, and the place of each fault. What is read is how
 //! many observations and goods there are, 1 where there are levels and 0 where there are none, and the level of each.
-use crate::reading::{Reader, assert_read};
+use crate::readers::reading::{Reader, assert_read};
 use std::test::Fail;
 
 const STAND: &str = "\

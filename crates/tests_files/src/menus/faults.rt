@@ -1,5 +1,5 @@
 //! Files of choices from menus that are refused.
-use crate::cases::{Asked, assert_text, assert_told};
+use crate::menus::cases::{Asked, assert_text, assert_told};
 use rp_menu::MenuFault;
 use std::alloc::Global;
 use std::process::Abort;

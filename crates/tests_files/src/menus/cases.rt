@@ -1,8 +1,8 @@
 //! What is asked of the choices in a file, as tables of cases that one loop goes through. No clause speaks of the rows.
-use crate::evidence::{Evidence, accepts, reported};
-use crate::found::found;
-use crate::given::{told_menus, told_units};
-use crate::sums::sums;
+use crate::menus::evidence::{Evidence, accepts, reported};
+use crate::menus::found::found;
+use crate::menus::given::{told_menus, told_units};
+use crate::menus::sums::sums;
 use std::alloc::Global;
 use std::process::Abort;
 use std::test::Fail;

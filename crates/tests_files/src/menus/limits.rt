@@ -1,6 +1,6 @@
 //! Both sides of the limits of menus.
-use crate::cases::assert_text;
-use crate::given::told_menus;
+use crate::menus::cases::assert_text;
+use crate::menus::given::told_menus;
 use std::alloc::{AllocError, Global};
 use std::process::Abort;
 use std::test::Fail;

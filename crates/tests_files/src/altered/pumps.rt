@@ -1,6 +1,6 @@
 //! Altered evidence on a money pump.
-use crate::altered_pumps::{CASES, COUNT, TABLES};
-use crate::numbers::Numbers;
+use crate::altered::altered_pumps::{CASES, COUNT, TABLES};
+use crate::altered::numbers::Numbers;
 use rp_pump::{PumpPart, check_pump};
 use rp_table::Costs;
 use rp_text::read_table;

@@ -1,5 +1,5 @@
 //! The order of menus and cells.
-use crate::cases::{Asked, assert_told};
+use crate::menus::cases::{Asked, assert_told};
 use std::test::Fail;
 
 /// A menu takes its place, and so does a cell in its menu, when a record first says that somebody chose there.

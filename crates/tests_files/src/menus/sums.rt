@@ -1,8 +1,8 @@
 //! The sums over menus that hold a menu.
 ghost use Rattle.rp_orders.specs.OrderMixtures.{AreUnitsOf};
 
-use crate::cases::{Asked, assert_told};
-use crate::evidence::menus_of;
+use crate::menus::cases::{Asked, assert_told};
+use crate::menus::evidence::menus_of;
 use rp_menu::Menus;
 use rp_orders::{is_complete, menu_sum};
 use rp_patch::apportionment::Units;

@@ -1,5 +1,5 @@
 //! Tests of the sheet, through the forms of technologies, asked files and choices from menus.
-use crate::reading::{Reader, assert_read};
+use crate::readers::reading::{Reader, assert_read};
 use rp_forms::Form;
 use rp_sheet::{Records, TableFault, read_sheet};
 use std::alloc::Global;

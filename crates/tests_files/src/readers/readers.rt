@@ -1,5 +1,5 @@
 //! Tests of the readers of new prices, bundles, budgets and choices: what was read, and the place of each fault.
-use crate::reading::{Reader, assert_read};
+use crate::readers::reading::{Reader, assert_read};
 use rp_text::{TableFault, read_budgets};
 use std::alloc::Global;
 use std::test::Fail;

@@ -2,8 +2,8 @@
 ghost use Rattle.std.specs.Prelude.{IfOk};
 ghost use Rattle.rp_orders.specs.OrderMixtures.{AreUnitsOf};
 
-use crate::altered_menus::{CASES, COUNT, TABLES};
-use crate::numbers::Numbers;
+use crate::altered::altered_menus::{CASES, COUNT, TABLES};
+use crate::altered::numbers::Numbers;
 use rp_evidence::Share;
 use rp_menu::{Menus, read_menus};
 use rp_num::Seq;

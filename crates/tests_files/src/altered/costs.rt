@@ -1,6 +1,6 @@
 //! Altered evidence on cost.
-use crate::altered_costs::{ASKED, CASES, COUNT, TABLES};
-use crate::numbers::Numbers;
+use crate::altered::altered_costs::{ASKED, CASES, COUNT, TABLES};
+use crate::altered::numbers::Numbers;
 use rp_cost::{CostBounds, Upper, check_cost, read_asked, read_tech};
 use rp_evidence::Bound;
 use rp_farkas::{Entry, Pair};
