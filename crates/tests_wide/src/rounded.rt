@@ -78,6 +78,9 @@ pub(crate) const EXPERIMENT: &str =
                           816,70,996,87\n296,224,281,354\n978,80,719,163\n962,69,250,399\n\
                           908,51,203,341\n927,49,235,293\n";
 
+/// One more round, at the prices of the first: rounding both values down would fall round these two for ever.
+const SAME_PRICES: &str = "967,21,695,44\n";
+
 /// No two of these three contradict each other, and all three do; their products have about 45 digits each.
 const LONG_CYCLE: &str = "p_a,q_a,p_b,q_b,p_c,q_c\n\
                           1427095,8740599,2568788,2615939,8125878,5755235\n\
@@ -103,6 +106,20 @@ fn values_where_exact_products_pass_their_width(rt: HostRuntime) -> Result<(), F
         (397_675_552_559_674_459, 1_152_921_504_606_846_976),
     ];
     assert!(rt; has_values(&found(alloc, EXPERIMENT)?, &first, 25));
+    Ok(())
+}
+
+/// As exact fractions of whole numbers of any length give them, rounded down as the search rounds.
+#[test]
+fn values_where_two_rounds_have_the_same_prices(rt: HostRuntime) -> Result<(), Fail> {
+    let alloc = rt.alloc();
+    let table = format!(in alloc; "{EXPERIMENT}{SAME_PRICES}")?;
+    assert!(rt; is_withheld(alloc, table.as_str())?);
+    let first = [
+        (805_410_872_032_972_291, 4_611_686_018_427_387_904),
+        (795_115_847_789_772_075, 2_305_843_009_213_693_952),
+    ];
+    assert!(rt; has_values(&found(alloc, table.as_str())?, &first, 26));
     Ok(())
 }
 
