@@ -249,6 +249,15 @@ function choose(chosen) {
  * Gives files that were dropped beside the places to those that they fit by their columns' names, or in their order.
  */
 async function takeDropped(files) {
+  if (files.length > slots.length) {
+    const names = files.map((it) => it.name).join(", ");
+    const places = slots.length === 1 ? "There is a place for one file" : `There are places for ${slots.length} files`;
+    slots[0].refuse(
+      `${files.length} files were dropped together, and none was taken: ${names}.`,
+      `${places}: drop what belongs there. A certificate is taken below the answers, by Check a certificate.`,
+    );
+    return;
+  }
   if (slots.length === 1 || files.some((it) => it.size > 2 ** 22)) {
     slots[0].takeFile(files[0]);
     return;
@@ -279,6 +288,13 @@ document.addEventListener("drop", (event) => {
   const files = [...(event.dataTransfer?.files ?? [])];
   if (!isTaken && files.length) takeDropped(files);
 });
+// On paper nothing can be unfolded, so what is folded in the answers is open while the page is printed.
+let unfolded = [];
+addEventListener("beforeprint", () => {
+  unfolded = [...document.querySelectorAll("#answers details:not([open])")];
+  unfolded.forEach((it) => (it.open = true));
+});
+addEventListener("afterprint", () => unfolded.forEach((it) => (it.open = false)));
 choose(KINDS[0]);
 // The example that the page opens with; how long its answer took can be read by whoever measures.
 slots[0].take("experiment.csv", new TextEncoder().encode(EXAMPLES["experiment.csv"]));

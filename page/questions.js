@@ -8,6 +8,7 @@ import { fileOf, intervalPicture } from "./pictures.js";
 import {
   Purchases,
   asNumber,
+  checkInWords,
   cycleSentences,
   decimal,
   numbersIn,
@@ -292,7 +293,11 @@ export function checkQuestion(client, says, files, words) {
     const name = nameBeside("certificate", ...files.map((it) => it.name));
     const [command, ...rest] = words;
     const named = [...files.map((it) => it.name), name, ...rest];
-    showAnswer(place, await client.answer([command, ...named], [...files, { name, bytes }]));
+    const answer = await client.answer([command, ...named], [...files, { name, bytes }]);
+    const isAnswer = answer.status === 0 || answer.status === 1;
+    const told = isAnswer ? checkInWords(answer.output, new TextDecoder().decode(bytes)) : [];
+    const [first] = told;
+    showAnswer(place, answer, told.length > 1 ? [listOf(told)] : told.length ? [say(first)] : []);
   });
 }
 

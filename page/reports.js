@@ -267,3 +267,50 @@ export function parseFault(told) {
     means: FAULTS[it[2]] ?? "",
   };
 }
+
+// What an item of a certificate says where it has one of these members, by its name.
+const ITEM_WORDS = {
+  garp: { cycle: "GARP is violated", ranks: "GARP holds" },
+  afriat: { cycle: "there are no Afriat numbers", utility: "there are Afriat numbers" },
+  homothetic: { cycle: "the homothetic test is violated", values: "the homothetic test holds" },
+  quasilinear: { cycle: "the quasilinear test is violated", values: "the quasilinear test holds" },
+  demand: { cycle: "there are no bounds of demand, because GARP is violated", goods: "bounds of demand on a new budget" },
+  welfare: {
+    cycle: "there are no bounds on the money metric, because GARP is violated",
+    lower: "bounds on the money metric of an observation at new prices",
+  },
+  random: {
+    weights: "no population of consumers with preferences makes these choices; this share at most",
+    parts: "these types make the choices",
+  },
+};
+
+/** What the items of a certificate say, in words: of each its verdict, and whether it withholds it. */
+export function itemsInWords(text) {
+  return JSON.parse(text).items.map((item) => {
+    if ("withheld" in item) return { says: `${item.item}: withheld`, isProved: false };
+    if (item.item === "efficiency") {
+      const how = "at_ranks" in item ? "attained" : "not attained";
+      return { says: `the CCEI is ${withDecimal(item.level)}, ${how}`, isProved: true };
+    }
+    const words = Object.entries(ITEM_WORDS[item.item] ?? {}).find(([member]) => member in item);
+    const lacks = JSON.stringify(item).includes('"withheld"') ? ", but for those that it withholds" : "";
+    return { says: (words ? words[1] : item.item) + lacks, isProved: true };
+  });
+}
+
+/** What the checker's answer means: of an accepted certificate each item, of a rejected one what it is worth. */
+export function checkInWords(output, text) {
+  const rejected = /^rejected item (\d+)/.exec(output);
+  if (rejected) {
+    const where = rejected[1] === "0" ? "The certificate as a whole is" : `Item ${rejected[1]} is the first that is`;
+    return [
+      `${where} no proof of its verdict on these data. A rejected certificate proves nothing: its verdicts may be true ` +
+        "or false, and the data may be others than those that it was made of. Take the data as they were then, or make " +
+        "a new certificate and compare the two.",
+    ];
+  }
+  const items = itemsInWords(text);
+  if (!items.length) return ["It has no items, so nothing is proved."];
+  return items.map(({ says, isProved }, at) => `Item ${at + 1}: ${says}: ${isProved ? "proved" : "nothing is proved"}.`);
+}

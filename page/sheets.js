@@ -97,8 +97,19 @@ export function decodeFile(bytes) {
   }
 }
 
-/** What a file is that is no text, and what to do; nothing where it may be one. */
+// Blanks, ends of lines, and the bytes of a byte-order mark.
+const NOTHING = new Set([0x09, 0x0a, 0x0d, 0x20, 0xef, 0xbb, 0xbf]);
+
+/** What a file is that is no table, and what to do; nothing where it may be one. */
 export function otherThanText(bytes) {
+  const first = bytes.findIndex((it) => !NOTHING.has(it));
+  if (first < 0) return "This file is empty: it has no line of column names. Take the file that has the data.";
+  if (bytes[first] === 0x7b || bytes[first] === 0x5b) {
+    return new TextDecoder().decode(bytes.subarray(0, 2 ** 24)).includes('"items"')
+      ? "This is a certificate, and no table. Take the table that it is about; below the answers, open Check a " +
+        "certificate, and choose this file there."
+      : "This is JSON, and no table. Save the numbers as CSV, and take that.";
+  }
   const begins = (...own) => own.every((it, at) => bytes[at] === it);
   if (begins(0x50, 0x4b, 3, 4) || begins(0xd0, 0xcf, 0x11, 0xe0)) {
     return "This is a workbook, or another packed file, and no text. In the spreadsheet save the sheet as CSV, and " +

@@ -29,8 +29,10 @@ export class Slot {
     });
     this.place.addEventListener("dragleave", () => this.place.classList.remove("over"));
     this.place.addEventListener("drop", (event) => {
-      event.preventDefault();
       this.place.classList.remove("over");
+      // Several files are for the page, which has the other places.
+      if (event.dataTransfer.files.length > 1) return;
+      event.preventDefault();
       if (event.dataTransfer.files[0]) this.takeFile(event.dataTransfer.files[0]);
     });
   }
@@ -102,14 +104,20 @@ export class Slot {
     this.onChange(this);
   }
 
+  /** Says why nothing is taken, and what to do. */
+  refuse(head, way) {
+    this.#clear();
+    const says = make("strong", { textContent: head });
+    const how = make("p", { textContent: way });
+    this.body.replaceChildren(make("div", { className: "fault", attrs: { role: "alert" } }, says, how));
+  }
+
   /** Takes a file's bytes, and shows what it is. */
   take(name, bytes) {
     this.#clear();
     const other = otherThanText(bytes);
     if (other) {
-      const says = make("strong", { textContent: `${name} is not taken.` });
-      const way = make("p", { textContent: other });
-      this.body.replaceChildren(make("div", { className: "fault", attrs: { role: "alert" } }, says, way));
+      this.refuse(`${name} is not taken.`, other);
       return;
     }
     this.sheet = new Sheet(/^[^-]/.test(name) ? name : `file ${name}`, bytes);

@@ -18,6 +18,7 @@ import {
   Purchases,
   about,
   asNumber,
+  checkInWords,
   cycleSentences,
   decimal,
   decimalOf,
@@ -70,6 +71,25 @@ const REPORT =
   "observations 2 goods 2 places 0 0\ngarp violated\ncycle 1 2 1\nafriat none\ncycle 1 2 1\n" +
   "efficiency 4/5 attained yes\nbelow 1 1\nabove 1 2 1\nat ranks 2 2\nhomothetic violated\nstart 1\ncycle 1 2 1\n" +
   "quasilinear violated\ncycle 1 2 1\n";
+
+test("what a checked certificate proves, item by item", () => {
+  const items = [
+    { item: "garp", cycle: [1, 2, 1] },
+    { item: "efficiency", level: "4/5", at_ranks: [0, 1], below: [0, 1], above: [] },
+    { item: "homothetic", withheld: [3, 1, 2] },
+    { item: "demand", goods: [{ lower: { withheld: 2 }, upper: {} }] },
+  ];
+  const text = JSON.stringify({ items, kind: "table", version: 1 });
+  assert.deepEqual(checkInWords("accepted items 4 withheld 2\n", text), [
+    "Item 1: GARP is violated: proved.",
+    "Item 2: the CCEI is 4/5 (0.8), attained: proved.",
+    "Item 3: homothetic: withheld: nothing is proved.",
+    "Item 4: bounds of demand on a new budget, but for those that it withholds: proved.",
+  ]);
+  assert.match(checkInWords("rejected item 2 Shape place 0\n", text)[0], /^Item 2 is the first .* proves nothing/);
+  assert.match(checkInWords("rejected item 0 Levels place 1\n", text)[0], /^The certificate as a whole is no proof/);
+  assert.deepEqual(checkInWords("accepted items 0 withheld 0\n", '{"items":[]}'), ["It has no items, so nothing is proved."]);
+});
 
 test("each fault of the catalogue has words, and no other has", () => {
   assert.deepEqual(Object.keys(FAULTS).sort(), facts().faults.map((it) => it.name).sort());
@@ -276,6 +296,10 @@ test("a workbook and a PDF are told to be no text", () => {
   assert.match(otherThanText(Uint8Array.of(0xd0, 0xcf, 0x11, 0xe0)), /workbook/);
   assert.match(otherThanText(bytesOf("%PDF-1.7")), /PDF/);
   assert.equal(otherThanText(bytesOf("p_a,q_a\n")), "");
+  for (const it of ["", "\n", "\r\n \t\n", "\ufeff", "\ufeff\n"]) assert.match(otherThanText(bytesOf(it)), /is empty/);
+  const certificate = '{"items":[{"item":"garp","ranks":[0,0]}],"kind":"table","version":1}\n';
+  assert.match(otherThanText(bytesOf(certificate)), /certificate, and no table.*Check a certificate/);
+  assert.match(otherThanText(bytesOf(' {"p_a": [1]}')), /JSON, and no table/);
 });
 
 test("records with quotes are read and written back", () => {
