@@ -135,6 +135,8 @@ def of_documents(facts):
         yield Place(f"docs/reference/rp-{page}.md", "words of verdicts", {it: rf"`{it}\b" for it in words if it.split()[0] in own})
     yield Place("docs/explain/tests.md", "verdicts", {it: rf"^\| `{it}` \|" for it in [*facts["verdicts"], "efficiency", "pump"]},
                 all_of(r"^\| `(\w+)` \|"), r"^\| Verdict \| What it says.*?^$")  # fmt: skip
+    yield Place("docs/dev/PROVED.md", "programs", {"rp": r"clauses of the top call `run`", "rp-wide": r"`run_wide`", "rp-panel": r"`run_panel`"})
+    yield Place("docs/dev/DEFINITIONS.md", "programs", {"rp-panel": r"`rp_long/Panels`"})
     yield Place("docs/howto/referee.md", "items of certificates", {it: rf'`"{it}"`' for it in tags})
 
 

@@ -558,6 +558,25 @@ def check_ids():
             assert code == 601 and "gave no results" in said, (lines, code, said)
 
 
+def check_tutorial():
+    """The command of docs/tutorials/experiment-stata.md gives the numbers of its table."""
+    with open(os.path.join(EXAMPLES, "..", "docs", "tutorials", "experiment-stata.md"), encoding="utf-8") as it:
+        page = it.read()
+    options = dict(re.findall(r"(\w+)\(([^)]*)\)", re.search(r"(?m)^rptest, (.*)$", page)[1]))
+    old, new = re.search(r"(?m)^rename \((.*?)\) \((.*?)\)$", page).groups()
+    data = example("tutorial/subjects.csv")
+    for name, other in zip(old.split(), new.split()):
+        data[other] = data.pop(name)
+    found, code, _, stata = call(data, **options)
+    first = {subject: at for at, subject in reversed(list(enumerate(stata.data["subject"])))}
+    garp, floors = [[stata.data[it][at] for at in first.values()] for it in ("v_garp", "v_efficiency_floor")]
+    middle = sorted(floors)
+    told = [len(garp), int(sum(garp)), round(sum(floors) / len(floors), 3), round((middle[9] + middle[10]) / 2, 3)]
+    told += [sum(it >= level for it in floors) for level in (0.95, 0.90)]
+    wanted = [float(it) for it in re.findall(r"(?m)^\| [^|]* \| ([\d.]+)(?: \(\d+%\))? \|$", page)]
+    assert code == 0 and told == wanted, (code, told, wanted)
+
+
 @contextlib.contextmanager
 def without(variable):
     kept = os.environ.pop(variable, None)
@@ -782,7 +801,7 @@ def main():
     os.environ["RP_EXEC"] = os.path.abspath(os.environ["RP_EXEC"])
     with tempfile.TemporaryDirectory() as room:
         os.chdir(room)
-        for check in (check_verdicts, check_refusals, check_panel, check_ids, check_more, check_files, check_many, check_wide, check_texts):
+        for check in (check_verdicts, check_refusals, check_panel, check_ids, check_tutorial, check_more, check_files, check_many, check_wide, check_texts):
             check()
         os.chdir(old)
     print("clients/stata: the traffic is as it should be; it was not run in Stata")
