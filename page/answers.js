@@ -132,7 +132,7 @@ function testCard(name, title, item, table, levels, steps, isWide = false) {
 }
 
 /** The picture of two goods, with the curve of equal utility through the observation that is chosen. */
-function pictureOf(report, table, name) {
+function pictureOf(report, table, name, hasLines) {
   if (table.goods.length !== 2) return null;
   const { garp, afriat } = report.items;
   const model = afriat.verdict === "model"
@@ -140,7 +140,7 @@ function pictureOf(report, table, name) {
     : null;
   const figure = make("figure");
   const draw = () => {
-    const svg = budgetPicture(table, numbersIn(garp.cycle), model);
+    const svg = budgetPicture(table, numbersIn(garp.cycle), model, hasLines);
     const held = table.levels ? " What counts of each budget, by its level, is the thin dashed line." : "";
     const caption =
       "Budget lines, what was chosen on them, and the violating cycle where there is one. Drawn with rounded " +
@@ -221,7 +221,7 @@ export function tableAnswers(output, table, certificate, hasOwnMoney = false, st
     "Make a certificate and keep it",
     async () => keepFile("certificate.json", await certificate(), "application/json"),
   );
-  const figure = pictureOf(report, table, "budgets");
+  const figure = pictureOf(report, table, "budgets", hasOwnMoney);
   return make(
     "div",
     {},

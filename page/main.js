@@ -8,7 +8,7 @@ import { otherAnswers } from "./others.js";
 import { panelQuestions } from "./panel_questions.js";
 import { Panel, purchasesOf } from "./panels.js";
 import { tableQuestions } from "./questions.js";
-import { parseFault } from "./reports.js";
+import { offeredSays, parseFault } from "./reports.js";
 import { Runs } from "./runs.js";
 import { Sheet, fitOf, longFiles, placeInFile, placeInWords, raggedRecord, splitHouseholds } from "./sheets.js";
 import { Slot } from "./slots.js";
@@ -162,10 +162,17 @@ async function answerTable(slot, own) {
   }
   slot.show(null, true);
   const table = purchasesOf(file.bytes);
+  const lines = hasOwnMoney ? offeredSays(table) : null;
+  if (lines?.head) {
+    shows.tell(`Refused: ${lines.head}`);
+    shows.results(make("p", { className: "fault", textContent: lines.says }));
+    return;
+  }
   const certificate = async () => (await client.answer(["certify", file.name], [file])).output;
   shows.tell(`${file.name}: answered.`);
   window.firstAnswer ??= performance.now();
-  shows.results(tableAnswers(given.output, table, certificate, hasOwnMoney, given.stated));
+  const says = lines ? [make("p", { textContent: lines.says })] : [];
+  shows.results(...says, tableAnswers(given.output, table, certificate, hasOwnMoney, given.stated));
   shows.questions(...tableQuestions(client, file, table, shows, hasOwnMoney));
 }
 

@@ -133,9 +133,14 @@ export function equalUtility(table, model, level, endX, steps = 300) {
  * Budget lines of a table of two goods with the choices, a violating cycle, and a curve of equal utility where there is
  * one.
  */
-export function budgetPicture(table, cycle, model) {
+export function budgetPicture(table, cycle, model, hasLines = false) {
   const scale = 10 ** table.quantityPlaces;
-  const ends = table.prices.map((p, s) => p.map((price) => Number(table.cost(s, s)) / Number(price) / scale));
+  // Where prices are intercepts exchanged, the offered line is drawn; else that of what was spent.
+  const ends = table.prices.map((p, s) =>
+    hasLines
+      ? [p[1], p[0]].map((it) => Number(it) / 10 ** table.pricePlaces)
+      : p.map((price) => Number(table.cost(s, s)) / Number(price) / scale)
+  );
   const chosen = table.quantities.map((it) => it.map((q) => Number(q) / scale));
   const what = cycle.length
     ? `The arrows are the cycle ${cycle.join(", ")}: each leads to a bundle that could have been bought.`

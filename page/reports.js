@@ -55,8 +55,11 @@ export class Purchases {
     this.goods = header.filter((it) => it.startsWith("p_")).map((it) => it.slice(2));
     const rows = records.slice(1);
     const all = (mark) => this.goods.map((it) => column(`${mark}_${it}`));
-    const places = (columns) => Math.max(0, ...rows.flatMap((row) => columns.map((at) => placesOf(row[at] ?? ""))));
-    [this.pricePlaces, this.quantityPlaces] = [places(all("p")), places(all("q"))];
+    const most = (columns, of) => Math.max(0, ...rows.flatMap((row) => columns.map((at) => of(row[at] ?? ""))));
+    [this.pricePlaces, this.quantityPlaces] = [most(all("p"), placesOf), most(all("q"), placesOf)];
+    // As many as the file has, also where they are zeros.
+    const written = (text) => (text.trim().split(".")[1] ?? "").length;
+    this.writtenPlaces = [most(all("p"), written), most(all("q"), written)];
     this.prices = rows.map((row) => all("p").map((at) => scaled(row[at], this.pricePlaces)));
     this.quantities = rows.map((row) => all("q").map((at) => scaled(row[at], this.quantityPlaces)));
     this.labels = rows.map((row, at) => (column("obs") < 0 ? "" : row[column("obs")].trim()) || String(at + 1));
@@ -274,7 +277,10 @@ const ITEM_WORDS = {
   afriat: { cycle: "there are no Afriat numbers", utility: "there are Afriat numbers" },
   homothetic: { cycle: "the homothetic test is violated", values: "the homothetic test holds" },
   quasilinear: { cycle: "the quasilinear test is violated", values: "the quasilinear test holds" },
-  demand: { cycle: "there are no bounds of demand, because GARP is violated", goods: "bounds of demand on a new budget" },
+  demand: {
+    cycle: "there are no bounds of demand, because GARP is violated",
+    goods: "bounds of demand on a new budget",
+  },
   welfare: {
     cycle: "there are no bounds on the money metric, because GARP is violated",
     lower: "bounds on the money metric of an observation at new prices",
@@ -305,12 +311,65 @@ export function checkInWords(output, text) {
   if (rejected) {
     const where = rejected[1] === "0" ? "The certificate as a whole is" : `Item ${rejected[1]} is the first that is`;
     return [
-      `${where} no proof of its verdict on these data. A rejected certificate proves nothing: its verdicts may be true ` +
-        "or false, and the data may be others than those that it was made of. Take the data as they were then, or make " +
-        "a new certificate and compare the two.",
+      `${where} no proof of its verdict on these data. A rejected certificate proves nothing: its verdicts may be ` +
+        "true or false, and the data may be others than those that it was made of. Take the data as they were then, " +
+        "or make a new certificate and compare the two.",
     ];
   }
   const items = itemsInWords(text);
   if (!items.length) return ["It has no items, so nothing is proved."];
-  return items.map(({ says, isProved }, at) => `Item ${at + 1}: ${says}: ${isProved ? "proved" : "nothing is proved"}.`);
+  return items.map(({ says, isProved }, at) => {
+    const how = isProved ? "proved" : "nothing is proved";
+    return `Item ${at + 1}: ${says}: ${how}.`;
+  });
+}
+
+/**
+ * What choices spent of the budgets that were offered, where the prices of a table are the intercepts of two goods
+ * exchanged. The verdicts are about what the chosen bundles cost; this is a report about the file's own columns, and no
+ * part of them: the share x/i_x + y/i_y of each choice, and whether rounding to the decimal places of the file explains
+ * that it is not 1.
+ */
+export function offered(table) {
+  const [lines, places] = table.writtenPlaces.map((it) => 10n ** BigInt(it));
+  const more = (kept, side) => 2n * 10n ** BigInt(table.writtenPlaces[side] - kept);
+  const [ofLine, ofBundle] = [more(table.pricePlaces, 0), more(table.quantityPlaces, 1)];
+  const rows = table.prices.map(([second, first], at) => {
+    // In halves of the last decimal place, so that what is rounded lies one unit to either side.
+    const [a, b] = [first * ofLine, second * ofLine];
+    const [x, y] = table.quantities[at].map((it) => it * ofBundle);
+    const less = (it) => (it > 0n ? it - 1n : 0n);
+    const most = [((x + 1n) * (b - 1n) + (y + 1n) * (a - 1n)) * lines, (a - 1n) * (b - 1n) * places];
+    const least = [(less(x) * (b + 1n) + less(y) * (a + 1n)) * lines, (a + 1n) * (b + 1n) * places];
+    return {
+      at,
+      share: [(x * b + y * a) * lines, a * b * places],
+      isBelow: a > 1n && b > 1n && most[0] < most[1],
+      isOver: least[0] > least[1],
+    };
+  });
+  const least = rows.reduce((one, it) => (it.share[0] * one.share[1] < one.share[0] * it.share[1] ? it : one));
+  return { rows: rows.length, below: rows.filter((it) => it.isBelow), over: rows.filter((it) => it.isOver), least };
+}
+
+/** The same in words; `head` is there where a choice costs more than was offered. */
+export function offeredSays(table) {
+  const { rows, below, over, least } = offered(table);
+  const share = ([num, den], up = 0n) => decimal((num * 10_000n + up * (den - 1n)) / den, 4);
+  if (over.length) {
+    const [first] = over;
+    const [second, one] = table.prices[first.at].map((it) => decimal(BigInt(it), table.pricePlaces));
+    const amounts = table.quantities[first.at].map((it) => decimal(BigInt(it), table.quantityPlaces));
+    const line = `intercepts ${one} and ${second}, choice ${amounts.join(" and ")}`;
+    const others = over.length > 1 ? ` So do ${over.length - 1} other choices.` : "";
+    return {
+      head: `Observation ${table.labels[first.at]} (${line}) costs ${share(first.share, 1n)} of the offered budget.`,
+      says: `That is more than rounding explains.${others} Correct the file. If no line was offered, give prices.`,
+    };
+  }
+  const off = below.length
+    ? `${below.length} of ${rows} choices spent less than was offered by more than rounding`
+    : `all ${rows} choices lie on their lines, within rounding`;
+  const where = `observation ${table.labels[least.at]}`;
+  return { says: `Offered budgets: ${off}; minimum share ${share(least.share)}, ${where}.` };
 }

@@ -25,6 +25,8 @@ import {
   inUnits,
   isAbove,
   numbersIn,
+  offered,
+  offeredSays,
   parseFault,
   parseReport,
   productSentences,
@@ -72,6 +74,20 @@ const REPORT =
   "efficiency 4/5 attained yes\nbelow 1 1\nabove 1 2 1\nat ranks 2 2\nhomothetic violated\nstart 1\ncycle 1 2 1\n" +
   "quasilinear violated\ncycle 1 2 1\n";
 
+test("what choices spent of the offered budgets", () => {
+  // From x + y <= 10, by hand: (5, 5) spends all, (3, 4) 7/10, which halves of a unit make no whole, and (5, 4) 9/10.
+  const table = (...rows) => new Purchases([["p_x", "p_y", "q_x", "q_y"], ...rows.map((it) => ["10", "10", ...it])]);
+  const found = offered(table(["5", "5"], ["3", "4"], ["5", "4"]));
+  assert.equal(found.below.map((it) => it.at).join(), "1");
+  assert.equal(found.least.at, 1);
+  assert.ok(found.least.share[0] * 10n === found.least.share[1] * 7n);
+  assert.equal(offered(table(["5.0", "5.0"], ["3.0", "4.0"], ["5.0", "4.0"])).below.map((it) => it.at).join(), "1,2");
+  assert.match(offeredSays(table(["5", "5"], ["9", "9"])).head, /^Observation 2 .*choice 9 and 9\) costs 1\.8 of/);
+  assert.equal(offeredSays(table(["5", "6"])).head, undefined);
+  assert.match(offeredSays(table(["5.0", "6.0"])).head, /costs 1\.1 of/);
+  assert.match(offeredSays(table(["5", "5"])).says, /all 1 choices lie on their lines/);
+});
+
 test("what a checked certificate proves, item by item", () => {
   const items = [
     { item: "garp", cycle: [1, 2, 1] },
@@ -88,7 +104,8 @@ test("what a checked certificate proves, item by item", () => {
   ]);
   assert.match(checkInWords("rejected item 2 Shape place 0\n", text)[0], /^Item 2 is the first .* proves nothing/);
   assert.match(checkInWords("rejected item 0 Levels place 1\n", text)[0], /^The certificate as a whole is no proof/);
-  assert.deepEqual(checkInWords("accepted items 0 withheld 0\n", '{"items":[]}'), ["It has no items, so nothing is proved."]);
+  const none = checkInWords("accepted items 0 withheld 0\n", '{"items":[]}');
+  assert.deepEqual(none, ["It has no items, so nothing is proved."]);
 });
 
 test("each fault of the catalogue has words, and no other has", () => {

@@ -40,8 +40,10 @@ def of_verdict(verdict: Verdict, ax: Any = None, *, labels: bool = True) -> Any:
     marked = {place[label] for label in cycle}
     for at, (p, q) in enumerate(zip(prices, bundles)):
         spent = p[0] * q[0] + p[1] * q[1]
+        # The line that was offered, where intercepts tell it: they are the prices exchanged.
+        across, up = (p[1], p[0]) if table.offered is not None else (spent / p[0], spent / p[1])
         strong = at in marked
-        ax.plot([0, spent / p[0]], [spent / p[1], 0], color=STRONG if strong else LIGHT, linewidth=1.4 if strong else 0.8, zorder=2 if strong else 1)
+        ax.plot([0, across], [up, 0], color=STRONG if strong else LIGHT, linewidth=1.4 if strong else 0.8, zorder=2 if strong else 1)
     rest = [q for at, q in enumerate(bundles) if at not in marked]
     if rest:
         ax.scatter(*zip(*rest), s=18, color=PLAIN, zorder=3, label="choices")

@@ -9,7 +9,8 @@ plot.rp_test <- function(x, labels = NULL, main = NULL, xlab = NULL, ylab = NULL
   p <- lapply(1:2, function(at) as.numeric(table$texts[[at]]))
   q <- lapply(3:4, function(at) as.numeric(table$texts[[at]]))
   spent <- p[[1]] * q[[1]] + p[[2]] * q[[2]]
-  ends <- list(spent / p[[1]], spent / p[[2]])
+  # The lines that were offered, where intercepts tell them: they are the prices exchanged.
+  ends <- if (is.null(table$offered)) list(spent / p[[1]], spent / p[[2]]) else list(p[[2]], p[[1]])
   graphics::plot.new()
   graphics::plot.window(c(0, max(ends[[1]])) * 1.04, c(0, max(ends[[2]])) * 1.04, xaxs = "i", yaxs = "i", ...)
   graphics::axis(1)
