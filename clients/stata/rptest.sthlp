@@ -11,62 +11,115 @@
 
 {title:Description}
 
-{pstd}{cmd:rptest} tests whether prices and purchases meet the generalized axiom of revealed preference (Varian 1982), and the
-homothetic and quasilinear tests, and gives the critical cost efficiency index. Each observation of the data is one of the
-table, and the variables of {opt prices()} and {opt quantities()} are put together by their places. The verdicts are those
-of the program rp; nothing of this command is proved, and it was not run in Stata by those who wrote it.
+{pstd}{cmd:rptest} tests whether prices and chosen quantities satisfy the generalized axiom of revealed preference, GARP (Varian
+1982). It computes the critical cost efficiency index, CCEI (Afriat 1973), and tests whether the utility could be homothetic (Varian
+1983) or quasilinear (Brown and Calsamiglia 2007). Each observation of the data is an observation of the test. Prices and
+quantities are matched by the order of their variables.
+
+{pstd}The verdicts are those of the program rp, which is proved. This command is not proved, and its authors did not run it in Stata.
+It needs Linux.
 
 {title:Options}
 
-{phang}{opt by(varlist)} tests each group by itself, all of them by one call of the program rp-panel: the one that the environment
-variable RP_PANEL names, else the one that stands beside rp. Blanks round a name are cut; an observation without one is in no
-table, and {cmd:r(unnamed)} counts these. A group whose data are no table has its fault, with the number of the observation and of the column (1 is
-the group, then prices and quantities in their order), and the others go on. Data that are {cmd:xtset} as a panel need it.
+{phang}{opt by(varlist)} tests each group alone, by one call of the program rp-panel. The environment variable RP_PANEL names
+it; otherwise it is the one beside rp. Blanks around a name are ignored. An observation without a name belongs to no group, and
+{cmd:r(unnamed)} counts them. A group with an error has it in its row, with the number of the observation and of the column. Column 1
+is the group, and then come prices and quantities in their order. The other groups go on. Data that are {cmd:xtset} as a panel need {opt by()}.
 
-{phang}{opt levels(varname)} has the level of each observation in whole thousandths from 1 to 1000: how much of what was spent
-there counts (Varian 1990). The verdicts on the axiom and on Afriat's numbers are then by these levels.
+{phang}{opt levels(varname)} has the efficiency level of each observation, in integer thousandths from 1 to 1000: how much of its expenditure
+counts (Varian 1990). GARP and Afriat numbers use these levels.
 
-{phang}{opt obs(varname)} has the names of the observations, a year or a round. Where two of one table have the same, the
-command stops with r(459): the data are a panel then, and {opt by()} names its households.
+{phang}{opt obs(varname)} has the names of the observations, such as a year or a round. If two observations of one table have the same
+name, the command stops with r(459). The data are then a panel, and {opt by()} names its units.
 
-{phang}{opt digits(# [#])} rounds to so many decimal places, 0 to 6: prices and quantities alike, or each by its own number.
-Without it nothing is rounded, and a number that does not end after 6 places as a binary fraction, as 3.18, stops the command
-with r(459), which tells the places that fit the seven digits that the program takes.
+{phang}{opt digits(# [#])} rounds to this number of decimal places, 0 to 6: one number for prices and quantities, or one for each.
+Without it nothing is rounded. A double such as 3.18 is a binary fraction with more than 6 decimal places, and stops the command with
+r(459). The message says which {opt digits()} fit.
 
-{phang}{opt pump} gives the greatest money pump ratio of each group too (Echenique, Lee and Shum 2011).
+{phang}{opt pump} adds the maximum money pump index of each group (Echenique, Lee and Shum 2011).
 
-{phang}{opt power(#)} draws so many random behaviours, 1 to 1000, on the budgets of each group, and gives which share of them violates
-the axiom; {opt seed(#)} is 1 if it is left out. The draws are those of the program's command power.
+{phang}{opt power(#)} draws 1 to 1000 random behaviours on the budgets of each group, and adds the share that violates GARP
+(Bronars 1987). {opt seed(#)} is 1 by default. The draws are those of the program's command power, which are nearer to equal shares than
+uniform draws.
 
-{phang}{opt newprices(# # ..)} are one price for each good. With {opt money(#)}, what is spent at them, there are the bounds of demand of
-each good. Without it there are the bounds of what it costs at these prices to be as well off as at each observation; that needs
-{opt generate()}, which makes {it:stub}{cmd:_lower} and {it:stub}{cmd:_upper}.
+{phang}{opt newprices(# # ..)} has one new price for each good. With {opt money(#)}, the new expenditure, the results are bounds on the demand of
+each good. Without it, they are bounds on what it costs at the new prices to be as well off as at each observation. This needs
+{opt generate()}, which makes the variables {it:stub}{cmd:_lower} and {it:stub}{cmd:_upper}.
 
-{phang}{opt generate(stub)} makes the variables {it:stub}{cmd:_garp} and so on, which have the results of its group in each
-observation.
+{phang}{opt generate(stub)} makes the variables {it:stub}{cmd:_garp} and so on, with the results of the group in each observation.
 
 {phang}{opt saving(filename)} makes a dataset with an observation for each group.
 
-{phang}{opt exe(filename)} is the program; else the environment variable RP_EXEC names it, else it is rp on the path. The script
-rptest.sh, which lies beside this command, runs it.
+{phang}{opt exe(filename)} is the program. Otherwise the environment variable RP_EXEC names it, or it is rp on the path. The script
+rptest.sh beside this command runs it.
 
-{phang}{opt nowide} asks the program alone. Else what it withholds is asked of rp-wide, its wider edition: the one that the environment
-variable RP_WIDE names, else the one that stands beside the program.
+{phang}{opt nowide} uses rp alone. Otherwise results that rp leaves undetermined come from rp-wide, if it finds them. The environment
+variable RP_WIDE names it, or it is the one beside the program.
 
-{title:Stored results}
-
-{pstd}Without {opt by()}: {cmd:r(status)}, {cmd:r(garp)}, {cmd:r(afriat)}, {cmd:r(homothetic)}, {cmd:r(quasilinear)} and
-{cmd:r(attained)} (1 where it holds, 0 where it is violated, missing where it is withheld or the data were refused),
-{cmd:r(ccei)}, the double nearest to the index, but below 1 unless it is 1, where asked {cmd:r(pump)}, {cmd:r(power)} and for each good
-{cmd:r(low}{it:#}{cmd:)} and {cmd:r(high}{it:#}{cmd:)}, and the macros {cmd:r(efficiency)}, the exact
-fraction, {cmd:r(pump_ratio)}, that of the money pump, {cmd:r(cycle)}, the numbers of observations within the table of a cycle that violates
-the axiom, {cmd:r(wide)}, what rp-wide gave and rp itself withholds (homothetic, demand, welfare), and {cmd:r(message)}. With {opt by()} there are the columns that tables of households have everywhere: {cmd:r(group}{it:#}{cmd:)}, {cmd:r(efficiency}{it:#}{cmd:)},
-{cmd:r(pump}{it:#}{cmd:)} and {cmd:r(power}{it:#}{cmd:)} (fractions in text) and {cmd:r(fault}{it:#}{cmd:)}, and always {cmd:r(groups)}, {cmd:r(held)}, how many meet the axiom,
-{cmd:r(without)}, how many have no verdict, {cmd:r(unnamed)}, and the matrix {cmd:r(verdicts)}, a row for each group, called by its values: with {opt by()} observations, goods, garp,
-efficiency_floor (the index, rounded down to six places), attained, homothetic, quasilinear, record and column, else status, garp, afriat, homothetic, quasilinear, attained and ccei, and what was asked beside them (with {opt by()} pump_floor). Past 800 groups there is no matrix and no macro of a group: say {opt generate()} or
-{opt saving()}.
-
-{title:Example}
+{title:Remarks and examples}
 
 {phang2}{cmd:. rptest, prices(p_bread p_wine) quantities(q_bread q_wine) by(household) digits(2) generate(v)}{p_end}
 {phang2}{cmd:. summarize v_garp v_efficiency_floor}{p_end}
+{phang2}{cmd:. count if v_efficiency_floor >= 0.95}{p_end}
+
+{pstd}efficiency_floor is the CCEI, rounded down to six decimal places. It is at least 0.95 exactly if the CCEI is at least 0.95.
+A verdict is 1 if it holds, 0 if it is violated, and missing if it is undetermined or the data have an error.
+
+{title:Stored results}
+
+{pstd}Without {opt by()}, {cmd:rptest} stores scalars:
+
+{p2colset 9 28 30 2}{p2col:{cmd:r(status)}}the exit code of rp{p_end}
+{p2col:{cmd:r(garp)}}GARP; likewise {cmd:r(afriat)}, {cmd:r(homothetic)}, {cmd:r(quasilinear)}{p_end}
+{p2col:{cmd:r(attained)}}whether GARP holds at the CCEI itself{p_end}
+{p2col:{cmd:r(ccei)}}the double nearest to the CCEI, below 1 unless it is 1{p_end}
+{p2col:{cmd:r(pump)}, {cmd:r(power)}}if requested{p_end}
+{p2col:{cmd:r(low}{it:#}{cmd:)}, {cmd:r(high}{it:#}{cmd:)}}bounds on the demand of each good{p_end}
+
+{pstd}and macros:
+
+{p2col:{cmd:r(efficiency)}}the CCEI as a fraction{p_end}
+{p2col:{cmd:r(pump_ratio)}}the money pump index as a fraction{p_end}
+{p2col:{cmd:r(cycle)}}the observations of a cycle that violates GARP{p_end}
+{p2col:{cmd:r(wide)}}what rp-wide found and rp leaves undetermined (homothetic, demand, welfare){p_end}
+{p2col:{cmd:r(message)}}why there is no verdict{p_end}
+
+{pstd}With {opt by()}, {cmd:rptest} stores:
+
+{p2col:{cmd:r(groups)}}the number of groups{p_end}
+{p2col:{cmd:r(held)}}how many satisfy GARP{p_end}
+{p2col:{cmd:r(without)}}how many have no verdict{p_end}
+{p2col:{cmd:r(unnamed)}}how many observations belong to no group{p_end}
+{p2col:{cmd:r(group}{it:#}{cmd:)}}the name of group {it:#}{p_end}
+{p2col:{cmd:r(efficiency}{it:#}{cmd:)}}its CCEI; likewise {cmd:r(pump}{it:#}{cmd:)} and {cmd:r(power}{it:#}{cmd:)}, as fractions{p_end}
+{p2col:{cmd:r(fault}{it:#}{cmd:)}}its error{p_end}
+{p2col:{cmd:r(verdicts)}}a matrix with a row for each group{p_end}
+
+{pstd}With {opt by()}, the columns of {cmd:r(verdicts)} are observations, goods, garp, efficiency_floor, attained, homothetic, quasilinear, record and
+column, and pump_floor if requested. Without it they are status, garp, afriat, homothetic, quasilinear, attained and ccei, and what was
+requested. With more than 800 groups there is no matrix and no macro of a group: use {opt generate()} or {opt saving()}.
+
+{p2colreset}{...}
+{title:Methods and formulas}
+
+{pstd}See docs/reference/rp-analyse.md, rp-pump.md, rp-power.md, rp-demand.md and rp-welfare.md of the program.
+
+{title:References}
+
+{phang}Afriat, S. N. 1973. On a system of inequalities in demand analysis: An extension of the classical method. {it:International Economic Review} 14: 460-472.
+
+{phang}Bronars, S. G. 1987. The power of nonparametric tests of preference maximization. {it:Econometrica} 55: 693-698.
+
+{phang}Brown, D. J., and C. Calsamiglia. 2007. The nonparametric approach to applied welfare analysis. {it:Economic Theory} 31: 183-188.
+
+{phang}Echenique, F., S. Lee, and M. Shum. 2011. The money pump as a measure of revealed preference violations. {it:Journal of Political Economy} 119: 1201-1223.
+
+{phang}Varian, H. R. 1982. The nonparametric approach to demand analysis. {it:Econometrica} 50: 945-973.
+
+{phang}Varian, H. R. 1983. Non-parametric tests of consumer behaviour. {it:Review of Economic Studies} 50: 99-110.
+
+{phang}Varian, H. R. 1990. Goodness-of-fit in optimizing models. {it:Journal of Econometrics} 46: 125-140.
+
+{title:Also see}
+
+{psee}{cmd:powerps} (Demetry, Hjertstrand and Polisson 2022) draws random behaviour uniformly, and tests it.{p_end}
