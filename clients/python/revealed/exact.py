@@ -9,7 +9,7 @@ from __future__ import annotations
 
 import math
 import re
-from decimal import Decimal
+from decimal import ROUND_HALF_EVEN, Decimal
 from fractions import Fraction
 from math import isfinite
 from typing import Any, Callable, NamedTuple
@@ -58,8 +58,10 @@ def text_of(value: Any, form: Form = AS_THEY_ARE) -> str:
     """Returns the text of a number, and the text of what is no number as it stands, for the program to refuse; raises TooLong."""
     places = form.places
     if form.shortest:
-        if isinstance(value, float) and places is None:
-            text = str(int(value)) if value.is_integer() and abs(value) < 2**53 else float.__repr__(value)
+        if isinstance(value, float) and abs(value) < 2**53:
+            text = str(int(value)) if value.is_integer() else float.__repr__(value)
+            if places is not None and not value.is_integer():
+                text = _without_zeros(format(Decimal(text).quantize(_STEPS[places], ROUND_HALF_EVEN), "f"))
             if _PLAIN.fullmatch(text):
                 return text
         value = shortest_of(value)
@@ -88,6 +90,15 @@ def text_of(value: Any, form: Form = AS_THEY_ARE) -> str:
     return decimal_text(_short(number))
 
 
+# The last decimal place of a number that is rounded.
+_STEPS = [Decimal(1).scaleb(-places) for places in range(MOST_PLACES + 1)]
+
+
+def _without_zeros(text: str) -> str:
+    """Returns a decimal without the zeros at its end, and zero without a sign."""
+    return unsigned_zero(text.rstrip("0").rstrip(".") if "." in text else text)
+
+
 def shortest_of(value: Any) -> Any:
     """Returns the text of the shortest decimal that gives a float back, and every other value as it is.
 
@@ -112,6 +123,10 @@ def is_shortened(value: Any) -> bool:
 def is_beyond(value: float, shortest: bool = True) -> bool:
     """Whether a float needs more than 6 decimal places or 7 digits: the shortest decimal that gives it back, or the float itself."""
     if value.is_integer() or not isfinite(value):
+        return False
+    # A point and a digit before it leave at most six places, and seven digits.
+    text = float.__repr__(value)
+    if shortest and len(text) <= MOST_FIGURES + 1 and "e" not in text:
         return False
     if not shortest and not (value * PARTS).is_integer():
         return True

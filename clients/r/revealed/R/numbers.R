@@ -34,16 +34,33 @@ double_texts <- function(x, digits, shortest) {
   text <- ifelse(is.na(x), "", as.character(x))
   own <- which(is.finite(x))
   if (shortest) {
-    short <- unsigned_zero(shortest_texts(x[own]))
-    other <- if (is.null(digits)) grepl("e", short, fixed = TRUE) else rep(TRUE, length(short))
-    short[other] <- vapply(short[other], plain_decimal, "", digits = digits)
-    text[own] <- short
+    text[own] <- if (is.null(digits)) shortest_decimals(x[own]) else rounded_decimals(x[own], as.integer(digits))
     return(text)
   }
   places <- if (is.null(digits)) binary_places(x[own]) else rep(as.integer(digits), length(own))
   # Without `digits` so many places are all that the double has. With it, they are the nearest to the double itself.
   text[own] <- unsigned_zero(sprintf("%.*f", places, x[own]))
   text
+}
+
+# Returns the shortest decimals of doubles without exponents.
+shortest_decimals <- function(x) {
+  short <- unsigned_zero(shortest_texts(x))
+  other <- grepl("e", short, fixed = TRUE)
+  short[other] <- vapply(short[other], plain_decimal, "")
+  short
+}
+
+# Returns the shortest decimals of doubles, rounded. No number between a double and its shortest decimal has as few places as those half
+# way between two rounded ones: so the double itself is rounded, but where its shortest decimal lies half way.
+rounded_decimals <- function(x, digits) {
+  text <- sprintf("%.*f", digits, x)
+  if (digits > 0) text <- sub("[.]?0+$", "", text)
+  half <- abs(x) >= 1e8
+  near <- which(!half)
+  half[near] <- is_quotient(x[near], digits + 1) & round(abs(x[near]) * 10^(digits + 1)) %% 10 == 5
+  text[half] <- vapply(shortest_decimals(x[half]), plain_decimal, "", digits = digits)
+  unsigned_zero(text)
 }
 
 # Returns the shortest decimal that gives each double back: 15 digits are enough for one that was read from as few, and 17 for all. What
