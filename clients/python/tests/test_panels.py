@@ -6,13 +6,13 @@ import random
 import subprocess
 import sys
 import tempfile
-import time
 import unittest
 import unittest.mock
 from fractions import Fraction
 
 import revealed
 from revealed import BadData, NoProgram, Unreadable, long_call, long_files, program
+from test_refusals import calls_of
 
 # Two purchases that contradict each other: of a household that is "violated", and in exchange of one that "holds".
 TWO = {"p_a": [1, 2], "p_b": [2, 1], "q_a": [1, 2], "q_b": [2, 1]}
@@ -106,14 +106,12 @@ class Faults(unittest.TestCase):
         self.assertIn("3 without verdicts: BadNumber, the first 'h1'\n1 without verdicts: ZeroBundle, the first 'h4'", repr(found))
         self.assertIn("row 4, column 'q_a', value 'x'", found.faults()[0]["message"])
 
-    def test_refusing_is_not_slower_than_answering(self):
-        """Why a household has no verdicts is reckoned where it is looked at, and not for each."""
-        d = {"household": [f"h{at // 2}" for at in range(4000)], "p_a": ["0.12345678"] * 4000, "p_b": [1, 2] * 2000, "q_a": [1, 2] * 2000, "q_b": [2, 1] * 2000}
+    def test_refusing_is_not_dearer_than_answering(self):
+        """Why a household has no verdicts is put into words where it is looked at, and not for each."""
+        d = {"household": [f"h{at // 2}" for at in range(400)], "p_a": ["0.12345678"] * 400, "p_b": [1, 2] * 200, "q_a": [1, 2] * 200, "q_b": [2, 1] * 200}
         d["p_a"][0] = d["p_a"][1] = 1
-        began = time.process_time()
-        found = panel(d)
-        self.assertLess(time.process_time() - began, 10)
-        self.assertEqual(found.faults()[0]["count"], 1999)
+        self.assertEqual(panel(d).faults()[0]["count"], 199)
+        self.assertLess(calls_of(lambda: panel(d)), 2 * calls_of(lambda: panel({**d, "p_a": [1] * 400})))
 
     def test_more_records_than_a_table_has(self):
         found = panel(frame(["A"] * 513 + ["B"] * 512))

@@ -5,8 +5,8 @@ import os
 import pathlib
 import shutil
 import stat
+import sys
 import tempfile
-import time
 import unittest
 
 import revealed
@@ -42,6 +42,22 @@ CRAFTED = [
     "é\ud800",
     "",
 ]
+
+
+def calls_of(work):
+    """Returns how many functions are called, which is the same in every run."""
+    count = 0
+
+    def seen(frame, event, argument):
+        nonlocal count
+        count += event in ("call", "c_call")
+
+    sys.setprofile(seen)
+    try:
+        work()
+    finally:
+        sys.setprofile(None)
+    return count
 
 
 class Rounding(unittest.TestCase):
@@ -117,13 +133,14 @@ class Rounding(unittest.TestCase):
         self.assertIn("numbers='shortest'", str(caught.exception))
         self.assertEqual([row.status for row in revealed.panel(d, "home", decimals=(2, None), progress=False)], [0, 0])
 
-    def test_refusing_a_panel_is_quick(self):
-        rows = range(5000 * 20)
-        d = {"home": [at // 20 for at in rows], **{f"{kind}_{good}": [1 / (7 + at % 83) for at in rows] for kind in "pq" for good in "ab"}}
-        began = time.perf_counter()
-        with self.assertRaises(Refused):
-            revealed.panel(d, "home", progress=False, exe="/bin/true")
-        self.assertLess(time.perf_counter() - began, 10)
+    def test_refusing_a_panel_grows_with_its_rows_and_no_faster(self):
+        def refuse(homes):
+            rows = range(20 * homes)
+            d = {"home": [at // 20 for at in rows], **{f"{kind}_{good}": [1 / (7 + at % 83) for at in rows] for kind in "pq" for good in "ab"}}
+            with self.assertRaises(Refused):
+                revealed.panel(d, "home", progress=False, exe="/bin/true")
+
+        self.assertLess(calls_of(lambda: refuse(200)), 3 * calls_of(lambda: refuse(100)))
 
     def test_a_panel_that_is_refused_for_one_cause_stops(self):
         d = {"home": ["u", "u", "v"], "p_a": ["3.1800001", "2.5", "1.0000001"], "p_b": [1, 1, "12500.5"], "q_a": [1, 1, 1], "q_b": [2, 3, 4]}
