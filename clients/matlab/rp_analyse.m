@@ -1,5 +1,5 @@
 function verdict = rp_analyse(p, q, varargin)
-% RP_ANALYSE  Whether one consumer can have made these purchases, how far off they are, and by what evidence.
+% RP_ANALYSE  Whether one consumer could have made these purchases, how far off they are, and by what evidence.
 %
 %   v = rp_analyse(p, q)             p and q are matrices: a row for each observation, a column for each good
 %   v = rp_analyse(p, q, 'Levels', e)                e(t), whole thousandths, is the level of observation t alone (Varian 1990)

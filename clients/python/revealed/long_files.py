@@ -18,7 +18,7 @@ from itertools import chain
 from typing import Any, Callable, Iterator, NamedTuple, Optional
 
 from .catalogue import LIMITS
-from .exact import text_of
+from .exact import Form, text_of
 from .long_call import BLANKS, DECIDING, ID_BYTES
 from .program import joined
 
@@ -201,9 +201,13 @@ def line(fields: list[str]) -> tuple[str, list[str]]:
     return f"{joined(own)}\n", own
 
 
+# A double of a file of Parquet is the binary fraction that it is: no line of the table could say that it was shortened.
+EXACT = Form(shortest=False)
+
+
 def text(value: Any) -> str:
     """Returns the text of a value, without rounding; that of a missing one is empty."""
-    return value if isinstance(value, str) else text_of(value)
+    return value if isinstance(value, str) else text_of(value, EXACT)
 
 
 # ---- households
