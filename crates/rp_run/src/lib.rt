@@ -9,7 +9,6 @@ mod files;
 mod laws;
 mod patches;
 mod running;
-mod sure;
 mod tables;
 mod telling;
 mod told;
@@ -20,5 +19,4 @@ pub use laws::{
     patches_are_of_choices_in_files,
 };
 pub use rp_answers::{Status, trial_table};
-pub use running::{run, run_edition};
-pub use sure::run_surely;
+pub use running::run_edition;

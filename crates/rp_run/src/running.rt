@@ -7,11 +7,10 @@ ghost use Rattle.rp_command_line.specs.CommandLine.{Line as Asked};
 ghost use Rattle.rp_command_line.specs.Words.{line_in};
 ghost use Rattle.rp_command_line.specs.Commands.{program};
 ghost use Rattle.rp_command_line.specs.Shapes.{HasShape, shape_of};
-ghost use Rattle.rp_run.specs.Answers.{IsAccepted, IsAcceptedBy, IsRefused, IsRefusedBy};
-ghost use Rattle.rp_run.specs.Calls.{AnswersUsage, AsksByName, AsksInTurn, GivesCheckVerdict};
-ghost use Rattle.rp_run.specs.Calls.{GivesCheckVerdictBy};
-ghost use Rattle.rp_run.specs.Calls.{IsWritten, IsWrittenBy, LeavesTheRest};
-ghost use Rattle.rp_run.specs.Calls.{TellsWhy, TellsWhyBy};
+ghost use Rattle.rp_run.specs.Answers.{IsAcceptedBy, IsRefusedBy};
+ghost use Rattle.rp_run.specs.Calls.{AnswersUsage, AsksByName, AsksInTurn, GivesCheckVerdictBy};
+ghost use Rattle.rp_run.specs.Calls.{IsWrittenBy, LeavesTheRest};
+ghost use Rattle.rp_run.specs.Calls.{TellsWhyBy};
 ghost use Rattle.rp_run.specs.FaultLines.{write_line};
 ghost use Rattle.rp_run.specs.Endings.{IsEnd, Rose, NoneRose};
 ghost use Rattle.rp_run.specs.Gains.{Gains};
@@ -21,69 +20,14 @@ ghost use Rattle.rp_run.specs.InnerCauses.{status_of_cause, cause_line};
 use crate::answer::answer_line;
 use crate::files::Cause;
 use crate::telling::tell;
-use rp_answers::{Answer, AsStated, Edition, Status};
+use rp_answers::{Answer, Edition, Status};
 use rp_command_line::read_line;
 use rp_outside::{Desk, Sink, pour};
 use std::alloc::Global;
 
-/// Answers the words of a command line over the files of a desk. The answer goes to `out`, and the reason
-/// why there is none to `err`, whose failures change no status. All is printed as it stands.
-pub fn run<D: Desk, O: Sink, E: Sink>(
-    alloc: Global,
-    words: &Vec<String>,
-    desk: &mut D,
-    out: &mut O,
-    err: &mut E,
-) -> Status
-    // The words.
-    ensures words { AnswersUsage (line_in words.now.items) result }
-    ensures refused_by_clap { result ≡ Status.Usage
-        → ¬ (fault_of program (map string_bytes words.now.items) ≡ []) }
-    ensures shapes { (line : Asked) (name : List ℕ) → HasShape line
-        → map string_bytes words.now.items ≡ name ∷ shape_of line
-        → line_in words.now.items ≡ Some line }
-
-    // The answer, and what the output gains.
-    ensures written { IsWritten (D.bytes desk.old) (line_in words.now.items) result
-        (O.written out.old) (O.written out.new) (O.faults out.old) (O.faults out.new) }
-
-    // The checker's verdict on a certificate.
-    ensures verdict { GivesCheckVerdict (D.bytes desk.old) (line_in words.now.items) result }
-
-    // Why there is no answer.
-    ensures why { TellsWhy (D.bytes desk.old) (Rose (D.faults desk.old) (D.faults desk.new))
-        (AsksForFirst (D.bytes desk.old) (D.calls desk.old) (D.calls desk.new))
-        (line_in words.now.items) result
-        (E.written err.old) (E.written err.new) (E.faults err.old) (E.faults err.new) }
-
-    // How often the desk is asked for the files of the words, and in which order.
-    ensures turns { AsksInTurn (D.bytes desk.old)
-        (D.calls desk.old) (D.calls desk.new) (line_in words.now.items) }
-
-    // For which names, and each once.
-    ensures names { AsksByName (D.bytes desk.old)
-        (D.asked desk.old) (D.asked desk.new) (line_in words.now.items) }
-
-    // When there is one.
-    ensures complete { (line : Asked) → line_in words.now.items ≡ Some line
-        → IsAccepted (D.bytes desk.old) line
-        → NoneRose line (D.faults desk.old) (D.faults desk.new)
-        → ¬ HasRisen (O.faults out.old) (O.faults out.new)
-        → IsEnd result ⊎ (result ≡ Status.NoMemory) }
-    ensures refused { (line : Asked) → line_in words.now.items ≡ Some line
-        → IsRefused (D.bytes desk.old) line
-        → NoneRose line (D.faults desk.old) (D.faults desk.new)
-        → (result ≡ Status.Refused) ⊎ (result ≡ Status.NoMemory) }
-
-    // What is left as it was.
-    ensures stays { LeavesTheRest (D.bytes desk.old) (D.bytes desk.new)
-        (D.faults desk.old) (D.faults desk.new) (O.faults out.old) (O.faults out.new)
-        (E.faults err.old) (E.faults err.new) }
-{
-    run_edition::<AsStated, D, O, E>(alloc, words, desk, out, err)
-}
-
-/// The same by any edition of the program, whose texts and limits of choices these are.
+/// Answers the words of a command line over the files of a desk, by an edition of the program, whose texts and limits
+/// of choices these are. The answer goes to `out`, and the reason why there is none to `err`, whose failures change no
+/// status. All is printed as it stands.
 pub fn run_edition<P: Edition, D: Desk, O: Sink, E: Sink>(
     alloc: Global,
     words: &Vec<String>,

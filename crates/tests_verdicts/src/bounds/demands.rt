@@ -47,17 +47,6 @@ fn push_good(alloc: Global, text: &mut String, good: &GoodBounds) -> Result<(), 
     push_bound(alloc, text, &good.upper)
 }
 
-/// A word, and the observations of a list.
-fn push_observations(
-    alloc: Global,
-    text: &mut String,
-    word: &str,
-    list: &[u32],
-) -> Result<(), Fail> {
-    text.push_str(word)?;
-    push_list(alloc, text, list, 0)
-}
-
 /// What is found, in one line.
 fn told(alloc: Global, part: &DemandPart) -> Result<String, Fail> {
     let mut text = String::new(alloc);
@@ -68,15 +57,15 @@ fn told(alloc: Global, part: &DemandPart) -> Result<String, Fail> {
             inner,
             goods,
         } => {
-            push_observations(alloc, &mut text, "below", below.as_slice())?;
-            push_observations(alloc, &mut text, ", strict", strict.as_slice())?;
+            push_list(alloc, &mut text, "below", below.as_slice(), 0)?;
+            push_list(alloc, &mut text, ", strict", strict.as_slice(), 0)?;
             push_point(alloc, &mut text, inner)?;
             for good in goods.as_slice() {
                 push_good(alloc, &mut text, good)?;
             }
         }
         DemandPart::NoModel(walk) => {
-            push_observations(alloc, &mut text, "no model", walk.as_slice())?;
+            push_list(alloc, &mut text, "no model", walk.as_slice(), 0)?;
         }
     }
     Ok(text)

@@ -19,13 +19,15 @@ pub(crate) fn push_number(alloc: Global, text: &mut String, number: u64) -> Resu
     Ok(())
 }
 
-/// Observations with a space before each, and so much added to it.
+/// A word, and observations with a space before each, and so much added to it.
 pub(crate) fn push_list(
     alloc: Global,
     text: &mut String,
+    word: &str,
     list: &[u32],
     more: u8,
 ) -> Result<(), Fail> {
+    text.push_str(word)?;
     for number in list {
         push_number(alloc, text, u64::from(*number) + u64::from(more))?;
     }
