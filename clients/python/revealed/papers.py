@@ -8,16 +8,10 @@ from statistics import stdev
 from typing import Any, Callable, Iterable, Sequence
 
 from . import exact
+from .catalogue import THRESHOLDS
 from .faults import BadData
 from .long_call import OF_ID
 from .tables import OWN_MONEY
-
-# The thresholds of the index that a table has where no others are asked for.
-THRESHOLDS = ("0.99", "0.95", "0.90", "0.80")
-# What units are called, by the name of the column that tells them apart.
-UNITS = {"household": "households", "hh": "households", "hhid": "households", "home": "households", "subject": "subjects", "participant": "participants"}
-UNITS.update({"respondent": "respondents", "consumer": "consumers", "person": "persons", "individual": "individuals", "region": "regions", "firm": "firms"})
-
 
 def share(part: int, whole: int) -> str:
     return f"{part} of {whole} ({100 * part / whole:.1f}%)" if whole else "none"
@@ -67,12 +61,6 @@ def distribution(name: str, values: Sequence[Fraction]) -> list[tuple[str, str]]
     return [(f"{name}, mean", mean(values)), (f"{name}, standard deviation", deviation(values)), *quantiles]
 
 
-def units_of(panel: Any) -> str:
-    """Returns what the units of a panel are called: by the column that tells them apart, else units."""
-    names = [str(name).strip().lower() for name in panel.by]
-    return next((UNITS[name] for name in names if name in UNITS), "units")
-
-
 def threshold(level: Any) -> tuple[str, Fraction]:
     """Returns a threshold as it is told, and as the number that it is; 0.95 is 95 hundredths."""
     text = exact.text_of(level) if not isinstance(level, str) else level.strip()
@@ -87,8 +75,8 @@ def lines_of(panel: Any, units: str | None = None, thresholds: Iterable[Any] = T
     withheld counts, as what may hold or not."""
     rows = [row for row in panel if row.fault is None]
     unnamed = sum(row.fault in OF_ID for row in panel)
-    lines = [(units or units_of(panel), str(len(panel) - unnamed)), ("with a verdict (N)", str(len(rows)))]
-    lines += [("records without an id", str(unnamed))] if unnamed else []
+    lines = [(units or panel.units, str(len(panel) - unnamed)), ("with a verdict (N)", str(len(rows)))]
+    lines += [("rows without an id", str(unnamed))] if unnamed else []
     counts = sorted({row.observations for row in rows})
     lines += [("observations of each", f"{counts[0]}" if len(counts) == 1 else f"{counts[0]} to {counts[-1]}")] if counts else []
     asked = [("garp", "GARP holds"), ("homothetic", "homothetic"), ("quasilinear", "quasilinear")]

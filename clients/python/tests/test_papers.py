@@ -48,7 +48,7 @@ class Texts(unittest.TestCase):
             r"CCEI, mean +0\.9000",
             # of 4/5 and 1 the sample's standard deviation is a fifth over the root of 2
             r"CCEI, standard deviation +0\.1414",
-            r"CCEI of at least 0\.80 +2 of 2",
+            r"CCEI of at least 0\.90 +1 of 2",
             r"maximum money pump, maximum +0\.2000",
         ):
             self.assertRegex(text, f"(?m)^({line})")
