@@ -278,7 +278,8 @@ class Panel(Units):
 
     def text(self, **more: Any) -> str:
         """Returns a table of the panel for a paper, as plain text: N, the mean, the standard deviation and the quartiles of the CCEI, and
-        the shares at `thresholds`, as ("0.95", "0.90"). `units="subjects"` says what its units are called."""
+        the shares at `thresholds`, as ("0.95", "0.90"). `units="subjects"` says what its units are called. Numbers are the nearest ones of
+        `digits` decimal places, 3 by default, of two the even one; but only 1 reads 1, and only 0 reads 0."""
         from . import papers
 
         return papers.text(self, **more)

@@ -59,7 +59,7 @@ def of_verdict(verdict: Verdict, ax: Any = None, *, labels: bool = True) -> Any:
     ax.set_ylabel(table.goods[1])
     ax.set_xlim(left=0)
     ax.set_ylim(bottom=0)
-    index = f"efficiency index {papers.down(verdict.efficiency)}{'' if verdict.attained else ', not attained'}"
+    index = f"efficiency index {papers.shown(verdict.efficiency, 4)}{'' if verdict.attained else ', not attained'}"
     ax.set_title(f"GARP {'holds' if verdict.garp else 'is violated'}; {index}", fontsize=10)
     if marked:
         ax.legend(frameon=False, fontsize=8)
@@ -88,7 +88,7 @@ def of_panel(panel: Any, ax: Any = None, *, random: int = 1000, seed: Any = 1, b
     exactly 1 has a bar of its own, apart from those just below.
 
     A behaviour takes the budgets of one unit, in turn, and on each a bundle drawn uniformly on the budget line. Its index is
-    the program's. Beside each stands the share whose index is above 0.90, and above 0.95.
+    the program's. Beside each stands the share whose index is at least 0.90, and at least 0.95.
     """
     rows = [row for row in panel if row.fault is None]
     if not rows:
@@ -119,5 +119,6 @@ def shares_in(own: Sequence[Any], low: float, width: float, bins: int) -> list[f
 
 
 def shares_told(answers: Sequence[Any]) -> str:
-    """Returns which share of some verdicts has an index above each level."""
-    return ", ".join(f"{100 * float(draws.share_above(answers, level)):.1f}% above {float(level):.2f}" for level in LEVELS)
+    """Returns which share of some verdicts has an index of at least each level."""
+    share = lambda level: sum(it.efficiency >= level for it in answers) / len(answers)
+    return ", ".join(f"{100 * share(level):.1f}% at least {float(level):.2f}" for level in LEVELS)

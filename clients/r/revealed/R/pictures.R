@@ -86,10 +86,10 @@ draw_key <- function(own) {
   )
 }
 
-# Returns an index with so many places: nearest, but nothing below 1 reads 1, and nothing above 0 reads 0.
+# Returns an index with so many decimal places: the nearest, of two the even one; but only 1 reads 1, and only 0 reads 0.
 shown_index <- function(x, digits = 3) {
   number <- as.double(x)
-  text <- sprintf("%.*f", digits, number)
+  text <- if (inherits(x, "rp_exact")) vapply(bare(x), nearest_text, "", digits = digits, USE.NAMES = FALSE) else sprintf("%.*f", digits, number)
   ten <- 10^digits
   is_one <- if (inherits(x, "rp_exact")) bare(x) == "1" else number >= 1
   is_zero <- if (inherits(x, "rp_exact")) bare(x) == "0" else number <= 0
@@ -97,8 +97,18 @@ shown_index <- function(x, digits = 3) {
   ifelse(!is_zero & as.numeric(text) <= 0, sprintf("<%.*f", digits, 1 / ten), text)
 }
 
+# Returns a fraction with so many decimal places, the nearest, of two the even one.
+nearest_text <- function(text, digits) {
+  if (is.na(text)) return("NA")
+  parts <- strsplit(text, "/", fixed = TRUE)[[1]]
+  decimal <- if (length(parts) == 1) parts else decimal_of(parts[1], parts[2], digits + 20L)
+  found <- strsplit(paste0(plain_decimal(decimal, digits), "."), ".", fixed = TRUE)[[1]]
+  part <- if (length(found) > 1) found[2] else ""
+  paste0(found[1], ".", part, strrep("0", digits - nchar(part)))
+}
+
 # Draws the distribution of the index over the units of a panel, and beside it that of another, such as random behaviour on the same
-# budgets (after Choi, Fisman, Gale and Kariv 2007), with the share of each above 0.90 and 0.95. An index of exactly 1 has a bar of its own.
+# budgets (after Choi, Fisman, Gale and Kariv 2007), with the share of each of at least 0.90 and 0.95. An index of exactly 1 has a bar of its own.
 plot.rp_panel <- function(x, random = NULL, type = c("histogram", "cumulative"), breaks = seq(0, 1, 0.05), main = NULL, xlab = NULL, ylab = NULL,
                           names = NULL, ...) {
   type <- chosen(type, c("histogram", "cumulative"), "type")
@@ -119,11 +129,11 @@ plot.rp_panel <- function(x, random = NULL, type = c("histogram", "cumulative"),
   invisible(x)
 }
 
-# Returns which share of the units that have a verdict has an index above 0.90, and above 0.95, by the exact index.
+# Returns which share of the units that have a verdict has an index of at least 0.90, and at least 0.95, by the exact index.
 shares_above <- function(panel) {
   index <- exact(unname(inside(panel)$texts[answered(panel), "efficiency"]))
-  share <- function(level) 100 * mean(as.numeric(index > exact(level)))
-  sprintf("%.1f%% above 0.90, %.1f%% above 0.95", share("9/10"), share("19/20"))
+  share <- function(level) 100 * mean(as.numeric(index >= exact(level)))
+  sprintf("%.1f%% at least 0.90, %.1f%% at least 0.95", share("9/10"), share("19/20"))
 }
 
 # Returns the index of each unit that has one, as doubles that only a whole 1 lets read 1.

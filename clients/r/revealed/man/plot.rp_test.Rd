@@ -21,7 +21,7 @@ the index over the households of a panel, beside that of random behaviour.
 \item{random}{another panel of the same kind, such as \code{\link{rp_random_panel}} gives.}
 \item{type}{shares of each in bins of the index, or how many are at or below each value.}
 \item{breaks}{the ends of the bins; a bin has its right end and not its left one, but for the first, which has both.}
-\item{names}{what the legend calls the two. Of the efficiency index it tells beside each which share is above 0.90, and above 0.95.}
+\item{names}{what the legend calls the two. Of the efficiency index it tells beside each which share is at least 0.90, and at least 0.95.}
 \item{...}{for \code{plot.window}.}
 }
 \value{
