@@ -74,7 +74,7 @@ same({r.rational, r.share, r.types, r.parts, r.weights}, {false, '3/4', [1 4; 2 
 same(r.wide, false, 'random choices that rp takes');
 for own = {8, 'TooManyTypes'; 11, 'TooManyCombinations'; 13, 'TooManyPatches'}'
   [p, w, budget, q, n] = pairs(own{1}, [1 3 2 2]);
-  refused(@() rp_random(p, w, budget, q, n, 'Wide', false), ['rp:Refused:', own{2}], 'wider edition');
+  refused(@() rp_random(p, w, budget, q, n, 'Wide', false), ['rp:Refused:', own{2}], 'rp-wide');
   r = rp_random(p, w, budget, q, n);
   same({r.rational, r.share, r.wide, abs(sum(r.parts) - 0.75) < 1e-12}, {false, '3/4', true, true}, 'choices that rp refuses');
   [p, w, budget, q, n] = pairs(own{1}, [3 1 3 1]);
@@ -119,7 +119,7 @@ refused(@() rp_analyse({'1', '1'}, {sprintf('1\n9'), '1'}), 'rp:Refused:BadNumbe
 P = [1 2; 2 1];
 same({rp_analyse(P, P, 'Levels', 0.95).garp, rp_analyse(P, P, 'Levels', 0.79).garp}, {false, true}, 'one share for all');
 same({rp_analyse(P, P, 'Levels', [0.799; 1]).garp, rp_analyse(P, P, 'Levels', [799; 1000]).garp}, {true, true}, 'shares and thousandths');
-refused(@() rp_analyse(P, P, 'Levels', [0.95 0.9512]), 'rp:Refused:BadLevel', 'thousandths');
+refused(@() rp_analyse(P, P, 'Levels', [0.95 0.9512]), 'rp:Refused:BadNumber', 'thousandths');
 refused(@() rp_analyse(P, P, 'Levels', [1 1 1]), 'rp:BadData', 'shares such as 0.95');
 % What to do about an error is said by the catalogue.
 refused(@() rp_analyse([0 1], [1 1]), 'rp:Refused:ZeroPrice', 'every price must be positive');

@@ -110,7 +110,7 @@ unit_bounds <- function(rows, places) {
     if (!all(grepl("^([0-9]+(/[0-9]+)?|violated|withheld)$", text))) stop(no_answer(paste(text, collapse = " ")))
     exact(ifelse(text %in% c("violated", "withheld"), NA, text))
   }
-  list(fault = "", garp = rows[1, "lower"] != "violated", lower = amount("lower"), upper = amount("upper"))
+  list(fault = "", garp = unname(rows[1, "lower"]) != "violated", lower = amount("lower"), upper = amount("upper"))
 }
 
 # Returns the rows of one unit in the frame that is given back.

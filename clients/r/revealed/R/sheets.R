@@ -152,7 +152,8 @@ too_large_hint <- function(sheet, kind) {
   if (!nzchar(kind) || kind == "money") return(plain_hint("TooLarge"))
   what <- if (kind == "price") "prices" else "quantities"
   paste0(
-    "In units of the last decimal place that any of the ", what, " has, a number is at most ", limit_text("table.largest"), ". ", rounding_advice(sheet)
+    "In units of the last decimal place that any of the ", what, " has, a number is at most ", limit_text("table.largest"), ". ", rounding_advice(sheet),
+    " Another unit of the good changes its price and its quantity, and no verdict."
   )
 }
 
