@@ -1,5 +1,5 @@
 /*
- * rp.h - revealed preference, as calls over files in memory, and two that tell which files they need.
+ * rp.h - revealed preference, as calls over files in memory, two that tell which files they need, and the version.
  *
  * `rp_answer` answers as the command `rp` does, to the same words over files of the same bytes, `rp_answer_wide` as
  * `rp-wide`, and `rp_panel` as `rp-panel`. No call reads a file, prints, starts a thread or keeps anything between
@@ -124,6 +124,12 @@ int32_t rp_panel_files(
     const uint8_t *words, size_t words_length,
     uint8_t *names, size_t names_room,
     uint64_t *names_length);
+
+/*
+ * Returns the version of the library, such as "0.17.0". The text ends with a zero byte, stays for as long as the library is loaded, and is
+ * not to be freed. Compare it with the version of what calls the library. Libraries up to 0.17.0 do not have this call.
+ */
+const char *rp_version(void);
 
 #ifdef __cplusplus
 }

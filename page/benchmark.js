@@ -5,7 +5,7 @@
  */
 import { make, tableOf } from "./dom.js";
 import { amountsOf, behaviour, drawnFile, words } from "./draws.js";
-import { isAbove } from "./reports.js";
+import { isAtLeast } from "./reports.js";
 import { askedRows } from "./rows.js";
 import { RECORDS_AT_ONCE } from "./sheets.js";
 
@@ -57,18 +57,18 @@ async function drawnRows(client, drawn) {
 export const shareInWords = (count, all) =>
   all ? `${count} of ${all} (${((100 * count) / all).toFixed(1)}%)` : "none";
 
-/** How many of these indices are above each threshold, exactly. */
-export function aboveThresholds(indices) {
-  return THRESHOLDS.map((it) => indices.filter((own) => isAbove(own, it, 100)).length);
+/** How many of these indices are at least each threshold, exactly. */
+export function atThresholds(indices) {
+  return THRESHOLDS.map((it) => indices.filter((own) => isAtLeast(own, it, 100)).length);
 }
 
-/** The shares of indices above the thresholds: a row for each of these groups, by its name. */
+/** The shares of indices of at least the thresholds: a row for each of these groups, by its name. */
 export function sharesTable(groups) {
-  const names = ["", "number", ...THRESHOLDS.map((it) => `index above 0.${it}`)];
+  const names = ["", "number", ...THRESHOLDS.map((it) => `index at least 0.${it}`)];
   const rows = Object.entries(groups).map(([name, indices]) => [
     name,
     String(indices.length),
-    ...aboveThresholds(indices).map((it) => shareInWords(it, indices.length)),
+    ...atThresholds(indices).map((it) => shareInWords(it, indices.length)),
   ]);
-  return make("div", { className: "shares" }, tableOf(names, rows, "shares of indices above 0.90 and 0.95"));
+  return make("div", { className: "shares" }, tableOf(names, rows, "shares of indices of at least 0.90 and 0.95"));
 }

@@ -19,3 +19,17 @@ export function range(command, name) {
 }
 
 export const facts = () => FACTS;
+
+/** What is wrong and what to do, by the sentences of the catalogue; nothing where it has none. */
+export function sentenceOf(of, code) {
+  const it = FACTS.hints.find((one) => one.of === of && one.code === code);
+  if (!it) return "";
+  const said = `${it.wrong} ${it.do}`.trim();
+  return said.replace(/Use --per (\d+)/, "Give $1 as the number of units").replace(/--id NAME; without[^.]*/, "its role");
+}
+
+/** What units are called, by the name of the column that tells them apart: subjects by subject, or by subject_id. */
+export function unitsBy(column) {
+  const name = column.trim().toLowerCase();
+  return FACTS.units[name] ?? FACTS.units[name.replace(/[ _.-]?(?:id|no|nr|number)$/, "")] ?? "units";
+}

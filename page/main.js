@@ -3,7 +3,7 @@ import { tableAnswers } from "./answers.js";
 import { Client, Stopped } from "./client.js";
 import { commandForm } from "./command.js";
 import { labelled, make, textOf } from "./dom.js";
-import { facts, range } from "./facts.js";
+import { facts, range, unitsBy } from "./facts.js";
 import { otherAnswers } from "./others.js";
 import { panelQuestions } from "./panel_questions.js";
 import { Panel, purchasesOf } from "./panels.js";
@@ -22,11 +22,11 @@ const KINDS = [
       {
         key: "table",
         file: "table",
-        title: "Table, or panel of households",
+        title: "Table, or panel of subjects or households",
         mapped: true,
         note:
-          "A CSV file: p_NAME and q_NAME for each good, a record for each observation. A column of households makes " +
-          "it a panel.",
+          "A CSV file: p_NAME and q_NAME for each good, a row for each observation. A column of subjects or " +
+          "households makes it a panel.",
         examples: ["experiment.csv", "contradiction.csv", "levels.csv", "panel.csv"],
       },
     ],
@@ -142,7 +142,7 @@ function refused(shows, told) {
   const fault = parseFault(told);
   const slot = slots.find((it) => fault && it.sheet && it.file.name === fault.file);
   const place = slot ? placeInWords(placeInFile(fault, slot.sheet.records, slot.mapping)) : "";
-  shows.tell(`Refused: ${told.trim()}`);
+  shows.tell(`Refused: ${told.split("\n")[0]}`);
   shows.results(
     ...(fault ? [make("p", { className: "fault", textContent: `${fault.fault}${place}. ${fault.means}` })] : []),
   );
@@ -195,12 +195,13 @@ async function answerPanel(slot, own) {
   const placeOf = ({ record, column }) =>
     placeInFile({ record, column: Math.max(column - 1, 0) }, records, mapping);
   const place = (fault, numbers) => placeInWords(placeInFile(fault, records, mapping, numbers));
-  const shows = { ...showsOf(own), place };
+  const called = { name: sheet.header[mapping.household], units: unitsBy(sheet.header[mapping.household]) };
+  const shows = { ...showsOf(own), place, called };
   const hasLevels = mapping.names(sheet.header).includes("e");
   const { hasOwnMoney } = mapping;
-  const panel = new Panel(client, households, { files, shows, place: placeOf, hasOwnMoney, hasLevels });
+  const panel = new Panel(client, households, { files, shows, place: placeOf, called, hasOwnMoney, hasLevels });
   slot.show(null, true);
-  shows.tell(`${households.length} households.`);
+  shows.tell(`${households.length} ${called.units}.`);
   shows.results(panel.place);
   const isWhole = await shows.working(async () => {
     await panel.run(began);
@@ -208,7 +209,7 @@ async function answerPanel(slot, own) {
   });
   const waited = `in ${((performance.now() - began) / 1000).toFixed(1)} s`;
   if (isWhole) {
-    shows.tell(`${households.length} households and ${panel.random.length} random behaviours ${waited}: answered.`);
+    shows.tell(`${households.length} ${called.units} and ${panel.random.length} random behaviours ${waited}: answered.`);
   }
   panel.show(true);
   if (households.length) shows.questions(...panelQuestions(client, households, shows));

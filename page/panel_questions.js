@@ -1,4 +1,4 @@
-/** Further questions on every household of a panel, whose answers are kept as CSV. */
+/** Further questions on every unit of a panel, whose answers are kept as CSV. */
 import { button, keepFile, labelled, make } from "./dom.js";
 import { area, pricePlacesOf, question } from "./questions.js";
 import { Purchases, decimalOf, inUnits, parseFault, parseReport } from "./reports.js";
@@ -28,8 +28,8 @@ const forSheet = ([household, ...rest]) => [forSpreadsheet(household), ...rest];
 const boundsIn = (output) => output.split("\n").map((line) => BOUND.exec(line)).filter(Boolean);
 
 /**
- * What a household is answered at new prices, a row for each bound, in the units of the file: `of` is a good, or an
- * observation; `wide` names the bounds that `rp` itself withholds; `refusal` says why a household is refused.
+ * What a unit is answered at new prices, a row for each bound, in the units of the file: `of` is a good, or an
+ * observation; `wide` names the bounds that `rp` itself withholds; `refusal` says why a unit is refused.
  */
 export function boundRows(kind, answer, goods, pricePlaces, refusal = (text) => text.trim()) {
   const { household, status, output, told, stated } = answer;
@@ -58,10 +58,11 @@ export function boundRows(kind, answer, goods, pricePlaces, refusal = (text) => 
   return rows.length ? rows : none("the axiom is violated, so there are no bounds", 0);
 }
 
-/** A question on every household at new prices, whose answers are kept as CSV. */
-function panelQuestion(client, households, kind, says, field, { working, progress, tell, place: where }) {
+/** A question on every unit at new prices, whose answers are kept as CSV. */
+function panelQuestion(client, households, kind, says, field, { working, progress, tell, place: where, called }) {
   const explains =
-    "The same new prices for every household. Bounds are exact, in the units of the file, each with its decimal " +
+    `The same new prices for all ${called.units}. ` +
+    "Bounds are exact, in the units of the file, each with its decimal " +
     "rounded " +
     `down beside it; where the axiom fails there are none. ${WIDE_COLUMN}`;
   return question(says, explains, [labelled("New prices as CSV", field)], async (place, isCurrent) => {
@@ -81,26 +82,26 @@ function panelQuestion(client, households, kind, says, field, { working, progres
     const told = (parts) => {
       done += parts.length;
       rows.push(...parts.flatMap((it) => boundRows(kind, it, goods, pricePlaces, refusal(it.household))));
-      if (isCurrent()) progress(done, households.length, began, "households");
+      if (isCurrent()) progress(done, households.length, began, called.units);
     };
     await working(async () => {
       await client.panel([kind, "table.csv", typed.name], households, told, [typed]);
-      if (isCurrent()) tell(`${households.length} households at new prices: answered.`);
+      if (isCurrent()) tell(`${households.length} ${called.units} at new prices: answered.`);
     });
     const [bounded, refused] = [
       new Set(rows.filter((row) => row[3]).map((row) => row[0])),
       rows.find((row) => row[1] !== "0"),
     ];
-    const first = refused ? ` The first that was refused is ${refused[0]}: ${refused.at(-1)}` : "";
+    const first = refused ? ` The first with an error is ${refused[0]}: ${refused.at(-1)}` : "";
     const keep = button(
       "Keep the bounds as CSV",
-      () => keepFile(`${kind}.csv`, writeRecords([BOUND_COLUMNS, ...rows.map(forSheet)]), "text/csv"),
+      () => keepFile(`${kind}.csv`, writeRecords([[called.name, ...BOUND_COLUMNS.slice(1)], ...rows.map(forSheet)]), "text/csv"),
     );
     place.replaceChildren(
       make(
         "p",
         {
-          textContent: `${done} of ${households.length} households done; ${bounded.size} of them have bounds.${first}`,
+          textContent: `${done} of ${households.length} ${called.units} done; ${bounded.size} of them have bounds.${first}`,
         },
       ),
       keep,
@@ -109,9 +110,8 @@ function panelQuestion(client, households, kind, says, field, { working, progres
 }
 
 /**
- * The questions on a panel. `shows` has what tells of long work: `working`, `progress` and `tell`; and `place`, which
- * says
- * where in the file a household's fault stands.
+ * The questions on a panel. `shows` has what tells of long work: `working`, `progress` and `tell`; `place`, which says
+ * where in the file a unit's fault stands; and `called`, the name of a unit and of several.
  */
 export function panelQuestions(client, households, shows) {
   const [names, ...rows] = parseRecords(new TextDecoder().decode(households[0].bytes), ",");
@@ -123,7 +123,7 @@ export function panelQuestions(client, households, shows) {
       client,
       households,
       "demand",
-      "New prices: what would each household buy?",
+      `New prices: what would each ${shows.called.name} buy?`,
       area(`${head},m\n${first},100\n`),
       shows,
     ),
@@ -131,7 +131,7 @@ export function panelQuestions(client, households, shows) {
       client,
       households,
       "welfare",
-      "New prices: what does it cost each household to be as well off?",
+      `New prices: what does it cost each ${shows.called.name} to be as well off?`,
       area(`${head}\n${first}\n`),
       shows,
     ),

@@ -1,4 +1,4 @@
-/** A panel: a verdict for each household, a table that sorts and filters, and the distribution of the index. */
+/** A panel: a verdict for each unit, a table that sorts and filters, and the distribution of the index. */
 import { tableAnswers } from "./answers.js";
 import { HOW_POWER_DRAWS, drawBehaviours, sharesTable } from "./benchmark.js";
 import { button, freshId, keepFile, labelled, make, numberField, say } from "./dom.js";
@@ -11,7 +11,7 @@ import { parseRecords, writeRecords } from "./sheets.js";
 
 // How many rows stand on the page at once.
 const MOST_ROWS = 500;
-// What the page does not ask of each household unasked.
+// What the page does not ask of each unit unasked.
 const NOT_ASKED = ["pump", "pump_floor", "power"];
 
 const seconds = (from) => ((performance.now() - from) / 1000).toFixed(1);
@@ -24,7 +24,9 @@ export const purchasesOf = (bytes) =>
  * run that the panel is of: `working`, `progress`, `tell`; `place` gives the place in the file of a fault.
  */
 export class Panel {
-  constructor(client, households, { files, shows, place, hasOwnMoney = false, hasLevels = false }) {
+  constructor(client, households, { files, shows, place, called, hasOwnMoney = false, hasLevels = false }) {
+    // What a unit is called, and what several are: by the name of the user's column.
+    [this.name, this.units] = [called.name, called.units];
     [this.client, this.households, this.shows, this.where] = [client, households, shows, place];
     [this.files, this.hasLevels] = [files, hasLevels];
     [this.rows, this.random, this.order, this.filter] = [[], [], { column: null, falls: false }, ""];
@@ -42,7 +44,7 @@ export class Panel {
     this.place = make("div", {}, this.summary, beside, this.#tools(), this.#table(), this.note, this.opened);
   }
 
-  /** Answers each household; `began` is when that was asked for. */
+  /** Answers each unit; `began` is when that was asked for. */
   async run(began) {
     try {
       for await (const rows of this.#answers(began)) {
@@ -62,19 +64,19 @@ export class Panel {
     for (const file of this.files) {
       const rows = (await askedRows(this.client, file, power)).map((it) => rowAt(it, file.numbers, this.where));
       done += rows.length;
-      this.shows.progress(done, this.count, began, "households");
+      this.shows.progress(done, this.count, began, this.units);
       yield rows.map((it) => this.#taken(it));
     }
   }
 
-  /** Answers each household anew, with the power of the axiom on its budgets beside its verdicts. */
+  /** Answers each unit anew, with the power of the axiom on its budgets beside its verdicts. */
   async #askPower(power) {
     const rows = [];
     for await (const some of this.#answers(performance.now(), power)) rows.push(...some);
     [this.rows, this.columns] = [rows, this.#columnsWith(["power"])];
     this.head.replaceChildren(...this.#heads());
     this.show(true);
-    this.shows.tell(`The power of each household, by ${power.draws} draws from the seed ${power.seed}: answered.`);
+    this.shows.tell(`The power of each unit, by ${power.draws} draws from the seed ${power.seed}: answered.`);
   }
 
   /** The columns of the table, and those of them that are not asked unasked. */
@@ -88,7 +90,7 @@ export class Panel {
     return this.hasOwnMoney ? { ...row, quasilinear: "" } : row;
   }
 
-  /** Random behaviour on the budgets of the households that were answered, one after another. */
+  /** Random behaviour on the budgets of the units that were answered, one after another. */
   async #drawRandom(count, seed) {
     const answered = new Set(this.rows.filter((it) => !it.fault).map((it) => it.household));
     const given = this.households.filter((it) => answered.has(it.household));
@@ -126,10 +128,10 @@ export class Panel {
     );
   }
 
-  /** How many behaviours the program draws on the budgets of each household, for the column `power`, and the seed. */
+  /** How many behaviours the program draws on the budgets of each unit, for the column `power`, and the seed. */
   #powers() {
     const [draws, seed] = [numberField(1000, ...range("power", "N")), numberField(1, ...range("power", "SEED"))];
-    const ask = button("Ask for the power of each household", () => this.shows.working(async () => {
+    const ask = button("Ask for the power of each unit", () => this.shows.working(async () => {
       if (![draws, seed].every((it) => it.reportValidity())) return;
       ask.disabled = true;
       try {
@@ -150,7 +152,7 @@ export class Panel {
     );
     const csv = () => keepFile(
       "verdicts.csv",
-      writeRecords(tableRecords(this.rows)),
+      writeRecords(tableRecords(this.rows, this.name)),
       "text/csv",
     );
     return make(
@@ -177,7 +179,7 @@ export class Panel {
     const table = make("table", { id: "panel-table" }, make("thead", {}, this.head), this.body);
     return make(
       "div",
-      { className: "scroll tall", tabIndex: 0, attrs: { role: "region", "aria-label": "verdicts by household" } },
+      { className: "scroll tall", tabIndex: 0, attrs: { role: "region", "aria-label": `verdicts by ${this.name}` } },
       table,
     );
   }
@@ -186,7 +188,7 @@ export class Panel {
     this.heads = this.columns.map((column) => make(
       "th",
       { scope: "col", attrs: { "aria-sort": "none" } },
-      button(column, () => this.#sorted(column)),
+      button(column === "household" ? this.name : column, () => this.#sorted(column)),
     ));
     return this.heads;
   }
@@ -218,11 +220,11 @@ export class Panel {
     return found;
   }
 
-  /** The answers of one household, as those of a table. */
+  /** The answers of one unit, as those of a table. */
   async #open(row) {
     this.opening += 1;
     const own = this.opening;
-    const name = row.household ? `Household ${row.household}` : `Record ${row.record}`;
+    const name = row.household ? `${this.name} ${row.household}` : `Record ${row.record}`;
     const head = make("h3", { textContent: name });
     if (row.fault) {
       this.opened.replaceChildren(head, make("p", { className: "fault", textContent: row.told }));
@@ -242,7 +244,7 @@ export class Panel {
     const cells = this.columns.map((it) => {
       if (it === "household") {
         const open = button(row.household || "(none)", () => this.#open(row), "link");
-        open.setAttribute("aria-label", `open household ${row.household}`);
+        open.setAttribute("aria-label", `open ${this.name} ${row.household}`);
         return make("td", {}, open);
       }
       return make("td", { textContent: row[it] });
@@ -257,18 +259,18 @@ export class Panel {
     const alone = kept.filter((it) => it.observations === "1").length;
     const [worst] = [...refused, ...unnamed];
     const who = worst?.household ? `${worst.household}: ` : "a record: ";
-    const first = worst ? ` The first that was refused is ${who}${worst.told}` : "";
+    const first = worst ? ` The first with an error is ${who}${worst.told}` : "";
     const nothing = alone ? ` (${alone} of these have one record, which can violate nothing)` : "";
     const held = this.hasLevels ? ", by their levels" : "";
-    const none = unnamed.length ? ` ${unnamed.length} records have no household, and are no household's.` : "";
+    const none = unnamed.length ? ` ${unnamed.length} records have no ${this.name}, and belong to none.` : "";
     const answered = this.rows.length - refused.length - unnamed.length;
     this.summary.textContent =
-      `${answered} of ${this.households.length} households answered${this.took}, ` +
-      `${kept.length} of them meet the axiom${held}${nothing}, ${refused.length} refused.${none}${first}`;
+      `${answered} of ${this.households.length} ${this.units} answered${this.took}, ` +
+      `${kept.length} of them satisfy GARP${held}${nothing}, ${refused.length} with an error.${none}${first}`;
     if (!isWhole) return;
     const found = this.#shown();
     this.body.replaceChildren(...found.slice(0, MOST_ROWS).map((row) => this.#row(row)));
-    const opens = " Press a household to see its picture and its cycle.";
+    const opens = ` Press a ${this.name} to see its picture and its cycle.`;
     this.note.textContent = (found.length > MOST_ROWS
       ? `The first ${MOST_ROWS} of ${found.length} rows are shown; the CSV has all.`
       : `${found.length} rows.`) + opens;
@@ -278,7 +280,7 @@ export class Panel {
   #draw() {
     const people = this.rows.flatMap((it) => (it.efficiency ? [it.efficiency] : []));
     if (!people.length) return;
-    const svg = indexPicture(people.map(asNumber), this.random.map(asNumber));
+    const svg = indexPicture(people.map(asNumber), this.random.map(asNumber), this.units);
     const beside = this.random.length
       ? ` beside ${this.random.length} random behaviours on the same budgets: each takes a bundle of each budget ` +
         "line, " +
@@ -286,14 +288,14 @@ export class Panel {
       : ".";
     const caption = make(
       "figcaption",
-      { textContent: `The share of households with at most each efficiency index${beside}` },
+      { textContent: `The share of ${this.units} with at most each efficiency index${beside}` },
     );
     this.figure.replaceChildren(
       svg,
       caption,
       button("Keep the picture as SVG", () => keepFile("indices.svg", fileOf(svg), "image/svg+xml")),
     );
-    const groups = { households: people, ...(this.random.length ? { "random behaviour": this.random } : {}) };
+    const groups = { [this.units]: people, ...(this.random.length ? { "random behaviour": this.random } : {}) };
     this.shares.replaceChildren(sharesTable(groups));
   }
 }

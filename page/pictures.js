@@ -15,11 +15,19 @@ function element(name, attributes, ...children) {
   return it;
 }
 
+/**
+ * How wide a picture is drawn: as wide as the window lets it be shown without making its letters of 13 pixels smaller,
+ * and at most 640.
+ */
+const widthHere = () => Math.max(250, Math.min(640, Math.floor(globalThis.innerWidth ?? 640) - 44));
+
 function picture(width, height, title, description) {
   const it = element(
     "svg",
     { viewBox: `0 0 ${width} ${height}`, role: "img", "aria-label": `${title}. ${description}`, xmlns: SVG },
   );
+  // Never narrower than leaves the letters 11 pixels.
+  if (it.style) it.style.minWidth = `${Math.ceil((width * 11) / 13)}px`;
   it.append(element("title", {}, title), element("desc", {}, description));
   return it;
 }
@@ -32,9 +40,9 @@ export function fileOf(svg) {
   return `<?xml version="1.0" encoding="UTF-8"?>\n${new XMLSerializer().serializeToString(copy)}\n`;
 }
 
-/** Round numbers from 0 to at least the greatest, some five of them. */
-function ticks(most) {
-  const rough = most / 5;
+/** Round numbers from 0 to at least the greatest, about so many of them. */
+function ticks(most, count = 5) {
+  const rough = most / count;
   const power = 10 ** Math.floor(Math.log10(rough));
   const step = [1, 2, 5, 10].map((it) => it * power).find((it) => it >= rough);
   return Array.from({ length: Math.ceil(most / step - 1e-9) + 1 }, (_, at) => at * step);
@@ -44,7 +52,7 @@ const ticked = (value) => String(Number(value.toPrecision(6)));
 
 /** The frame of a picture: axes from 0 with round numbers, and the two functions from numbers to places. */
 function axes(svg, { left, top, width, height, mostX, mostY, nameX, nameY }) {
-  const [ticksX, ticksY] = [ticks(mostX), ticks(mostY)];
+  const [ticksX, ticksY] = [ticks(mostX, width < 300 ? 3 : 5), ticks(mostY)];
   const [endX, endY] = [ticksX.at(-1), ticksY.at(-1)];
   const x = (value) => left + (value / endX) * width;
   const y = (value) => top + height - (value / endY) * height;
@@ -148,13 +156,16 @@ export function budgetPicture(table, cycle, model, hasLines = false) {
   const describes = model
     ? ` The dashed curve joins bundles as good as that of observation ${model.through + 1} by Afriat's numbers.`
     : "";
+  const wide = widthHere();
+  const high = wide < 480 ? Math.max(300, wide) : 480;
   const svg = picture(
-    640,
-    480,
+    wide,
+    high,
     "Budget lines and choices",
     `${table.count} observations of ${table.goods.join(" and ")}. ${what}${describes}`,
   );
-  const frame = { left: 64, top: 16, width: 556, height: 408, nameX: table.goods[0], nameY: table.goods[1] };
+  const size = { left: 64, top: 16, width: wide - 84, height: high - 72 };
+  const frame = { ...size, nameX: table.goods[0], nameY: table.goods[1] };
   const { x, y, endX, endY } = axes(
     svg,
     { ...frame, mostX: Math.max(...ends.map((it) => it[0])), mostY: Math.max(...ends.map((it) => it[1])) },
@@ -198,16 +209,15 @@ export function intervalPicture(goods) {
   const describes = goods.map(
     (it) => `${it.name}: from ${it.lower ?? "withheld"} to ${it.upper ?? "withheld"}`,
   ).join("; ");
-  const height = 70 + 34 * goods.length;
-  const svg = picture(640, height, "Bounds on demand", describes);
-  const { x } = axes(
-    svg,
-    { left: 130, top: 10, width: 480, height: height - 66, mostX: most, mostY: 1, nameX: "quantity", nameY: "" },
-  );
+  const [wide, height] = [widthHere(), 70 + 34 * goods.length];
+  const left = wide < 480 ? 90 : 130;
+  const svg = picture(wide, height, "Bounds on demand", describes);
+  const size = { left, top: 10, width: wide - left - 30, height: height - 66 };
+  const { x } = axes(svg, { ...size, mostX: most, mostY: 1, nameX: "quantity", nameY: "" });
   svg.querySelectorAll("text[text-anchor=end]").forEach((it) => it.remove());
   goods.forEach((it, at) => {
     const row = 28 + 34 * at;
-    svg.append(element("text", { x: 122, y: row + 4, "text-anchor": "end" }, it.name));
+    svg.append(element("text", { x: left - 8, y: row + 4, "text-anchor": "end" }, it.name));
     const [from, to] = [x(it.lower ?? 0), x(it.upper ?? most)];
     svg.append(element("path", { class: "bar", d: `M${from} ${row}H${Math.max(to, from + 1)}` }));
   });
@@ -223,20 +233,25 @@ function cumulative(values, x, y) {
   return pathOf(points);
 }
 
-/** The share of households with at most each index, beside that of random behaviour on the same budgets. */
-export function indexPicture(people, random) {
+/** The share of units, which are called so, with at most each index, beside that of random behaviour on the same budgets. */
+export function indexPicture(people, random, units = "units") {
   const beside = random.length ? `, beside ${random.length} tables of random behaviour on the same budgets` : "";
+  const wide = widthHere();
+  const isNarrow = wide < 480;
+  const high = isNarrow ? Math.max(320, wide) : 480;
   const svg = picture(
-    640,
-    480,
+    wide,
+    high,
     "Efficiency indices",
-    `The share of ${people.length} households with at most each index${beside}.`,
+    `The share of ${people.length} ${units} with at most each index${beside}.`,
   );
+  // The key has a line for each on a narrow screen.
+  const top = isNarrow ? 54 : 34;
   const frame = {
     left: 64,
-    top: 34,
-    width: 556,
-    height: 390,
+    top,
+    width: wide - 84,
+    height: high - top - 56,
     mostX: 1,
     mostY: 1,
     nameX: "efficiency index",
@@ -245,9 +260,13 @@ export function indexPicture(people, random) {
   const { x, y } = axes(svg, frame);
   if (random.length) svg.append(element("path", { class: "random", d: cumulative(random, x, y) }));
   svg.append(element("path", { class: "people", d: cumulative(people, x, y) }));
-  const key = [["people", "households", 64], ...(random.length ? [["random", "random behaviour", 220]] : [])];
-  for (const [name, says, at] of key) {
-    svg.append(element("path", { class: name, d: `M${at} 16h34` }), element("text", { x: at + 42, y: 20 }, says));
+  const second = isNarrow ? [64, 36] : [240, 16];
+  const key = [["people", units, 64, 16], ...(random.length ? [["random", "random behaviour", ...second]] : [])];
+  for (const [name, says, at, line] of key) {
+    svg.append(
+      element("path", { class: name, d: `M${at} ${line}h34` }),
+      element("text", { x: at + 42, y: line + 4 }, says),
+    );
   }
   return svg;
 }

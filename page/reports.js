@@ -1,7 +1,7 @@
 /**
  * The program's texts read back, and what they say in words. Costs are exact: whole numbers in the table's own scale.
  */
-import { written } from "./facts.js";
+import { sentenceOf } from "./facts.js";
 
 // The words with which the items of a report on a table begin.
 const HEADS = ["garp", "afriat", "efficiency", "homothetic", "quasilinear", "pump"];
@@ -123,10 +123,10 @@ export function about(fraction) {
 /** A fraction with its decimal behind it. */
 export const withDecimal = (fraction) => fraction + about(fraction);
 
-/** Whether a fraction is above num/den, exactly. */
-export function isAbove(fraction, num, den) {
+/** Whether a fraction is at least num/den, exactly. */
+export function isAtLeast(fraction, num, den) {
   const [a, b = "1"] = fraction.split("/");
-  return BigInt(a) * BigInt(den) > BigInt(num) * BigInt(b);
+  return BigInt(a) * BigInt(den) >= BigInt(num) * BigInt(b);
 }
 
 /** Joins texts as a sentence does. */
@@ -196,70 +196,19 @@ export function sumSentences(cycle, table) {
   ];
 }
 
-/**
- * What each fault means, and what to do: one for each fault of the catalogue, and no other (tools/check/page-logic).
- */
-export const FAULTS = {
-  Empty: "The file has no line at all.",
-  BadHeader:
-    "A column has a name that no column of this kind of file has. A table has p_NAME and q_NAME for each good, and " +
-    "may have e and obs: assign the columns above, or leave this one out.",
-  TwiceNamed: "Two columns have one name: leave one out, or give it another.",
-  Unpaired:
-    "A column is missing, or a price stands without its quantity. Each good wants p_NAME and q_NAME: add the column, " +
-    "or leave the good out.",
-  TooManyGoods: `There are more than ${written("table.goods")} goods: put goods together, or leave some out.`,
-  NoRecords: "There are column names and no records.",
-  TooManyRecords:
-    "There are more records than this kind of file may have. A table has at most " +
-    `${written("table.records")}: is this a panel that wants a column of households?`,
-  Ragged: "This record has more or fewer fields than there are column names.",
-  BadNumber:
-    "This is no number as the program takes it: digits, and possibly a point with digits on both sides; no sign, no " +
-    "blank, no exponent, no mark of thousands.",
-  TooManyDecimals:
-    `This number has more than ${written("table.places")} places. Round it yourself, knowing that a verdict can hang ` +
-    "on the rounding.",
-  ZeroPrice: "A price is 0; prices are above 0.",
-  BadLevel: `A level is from 1 to ${written("table.level_scale")} thousandths.`,
-  ZeroBundle: "Nothing was bought in this record, or nothing is spent.",
-  TooLarge:
-    "With the places of the longest number of its kind this number is above " +
-    `${written("table.largest")}. Count in a greater unit, or give fewer places to all.`,
-  OtherGoods: "These are not the goods of the table, or of the budgets: name the same ones.",
-  TooFine: "This number has more places than those of the table: round it to as many.",
-  UnknownBudget:
-    "This record chooses from a budget that there is not: budgets are numbered from 1 in their file's order.",
-  NoChoices: "On this budget nothing was chosen: leave the budget out, or add its choices.",
-  OwnLevels: "This command is defined without levels of the observations' own: leave the column e out for it.",
-  TooLong:
-    `The file is longer than the program takes: ${written("run.bytes")} bytes, and a certificate ` +
-    `${written("run.certificate_bytes")}.`,
-  NotJson: "This is no JSON, so it is no certificate. A file that PowerShell wrote by > is UTF-16: write it in UTF-8.",
-  BadVersion: "The certificate has another version than 1 and 2.",
-  BadShape: "This item is none of its kind, or has a number that no item has; item 0 is the certificate as a whole.",
-  BadMenu:
-    `This is no menu: one to ${written("menu.letters")} letters from a on, each after the one before it, without ` +
-      "blanks.",
-  BadChoice: "This is not one letter of the menu.",
-  NoMenus: "Every n is 0, so nothing was chosen.",
-  TooManyCells: `There are more than ${written("menu.cells")} pairs of a menu and a choice: ask about fewer menus.`,
-  TooManyPatches:
-    `There are more patches than rp takes, ${written("patch.patches")}, or rp-wide, ` +
-    `${written("generated.patches")}: ask about fewer budgets.`,
-  TooManyCombinations:
-    `A patch of each budget can be taken in more than ${written("types.combinations")} ways, and rp lists no more: ` +
-    "rp-wide takes them.",
-  TooManyTypes:
-    `There are more than ${written("types.types")} rational types, and rp lists no more: rp-wide takes them.`,
-  NeedUnit:
-    `The numbers of choices have no common multiple up to ${written("patch.units")}: give a number of units, as ` +
-    "1000, which takes the shares in thousandths, rounded.",
-};
+/** What each fault means, and what to do. */
+export function meansOf(fault) {
+  if (fault === "TooManyRecords") {
+    return `${sentenceOf("fault", fault)} If the rows are those of many units, choose the column that tells them apart.`;
+  }
+  return sentenceOf("fault", fault);
+}
 
 /** What is told of a refused file: its name, fault, record, column, and what it means. */
 export function parseFault(told) {
-  const it = /^rp(?:-panel)?: (?:([^]*?): )?([A-Z]\w+)((?: [a-z]+ \d+)*)\n$/.exec(told);
+  // What the program adds to its own line is said here by the catalogue.
+  const own = told.replace(/^(?:hint|note): .*\n/gm, "");
+  const it = /^rp(?:-panel|-wide)?: (?:([^]*?): )?([A-Z]\w+)((?: [a-z]+ \d+)*)\n$/.exec(own);
   if (!it) return null;
   const place = (word) => Number(new RegExp(`${word} (\\d+)`).exec(it[3])?.[1] ?? 0);
   return {
@@ -267,7 +216,7 @@ export function parseFault(told) {
     fault: it[2],
     record: place("record"),
     column: place("column"),
-    means: FAULTS[it[2]] ?? "",
+    means: meansOf(it[2]),
   };
 }
 
@@ -307,11 +256,15 @@ export function itemsInWords(text) {
 
 /** What the checker's answer means: of an accepted certificate each item, of a rejected one what it is worth. */
 export function checkInWords(output, text) {
-  const rejected = /^rejected item (\d+)/.exec(output);
+  const rejected = /^rejected item (\d+) (\w+)/.exec(output);
   if (rejected) {
-    const where = rejected[1] === "0" ? "The certificate as a whole is" : `Item ${rejected[1]} is the first that is`;
+    const [item, reason] = [Number(rejected[1]), rejected[2]];
+    const claim = item ? itemsInWords(text)[item - 1]?.says : "";
+    const where = item ? `Item ${item} is the first that does` : "The certificate as a whole does";
     return [
-      `${where} no proof of its verdict on these data. A rejected certificate proves nothing: its verdicts may be ` +
+      ...(claim ? [`Item ${item} claims: ${claim}.`] : []),
+      ...(sentenceOf("reason", reason) ? [sentenceOf("reason", reason)] : []),
+      `${where} not prove its verdict on these data. A rejected certificate proves nothing: its verdicts may be ` +
         "true or false, and the data may be others than those that it was made of. Take the data as they were then, " +
         "or make a new certificate and compare the two.",
     ];
@@ -355,7 +308,11 @@ export function offered(table) {
 /** The same in words; `head` is there where a choice costs more than was offered. */
 export function offeredSays(table) {
   const { rows, below, over, least } = offered(table);
-  const share = ([num, den], up = 0n) => decimal((num * 10_000n + up * (den - 1n)) / den, 4);
+  // To four places, rounded down, or up.
+  const share = ([num, den], up = 0n) => {
+    const text = ((num * 10_000n + up * (den - 1n)) / den).toString().padStart(5, "0");
+    return `${text.slice(0, -4)}.${text.slice(-4)}`;
+  };
   if (over.length) {
     const [first] = over;
     const [second, one] = table.prices[first.at].map((it) => decimal(BigInt(it), table.pricePlaces));

@@ -1,5 +1,5 @@
 /** The table that the call of panels writes of a long file: the words that it is asked by, and its rows. */
-import { FAULTS } from "./reports.js";
+import { meansOf } from "./reports.js";
 import { forSpreadsheet, parseRecords, placeInWords } from "./sheets.js";
 
 export const COLUMNS = [
@@ -22,11 +22,8 @@ export const COLUMNS = [
 const SHARE = "[0-9]+(?:/[0-9]+)?";
 const VERDICTS = `[0-9]+,[0-9]+,(?:holds|violated),${SHARE},[0-9]+[.][0-9]{6},(?:yes|no),` +
   "(?:holds|violated|withheld),(?:holds|violated),,";
-// What faults mean that a panel alone has.
-const OF_IDS = {
-  NoId: "This record has no household, and is no household's: give it the name of its household, or leave it out.",
-  LongId: "The name of a household is longer than is taken.",
-};
+// The faults of a record that has no unit.
+const OF_IDS = ["NoId", "LongId"];
 
 /**
  * The words of the call over a long file; `power` has how many behaviours are drawn on each household's budgets, and
@@ -52,10 +49,10 @@ export function rowsOf(output, { households, unnamed }, power = null) {
     return fields.length === COLUMNS.length && (fault ? /^,*$/ : isVerdicts).test(verdicts);
   };
   const ids = [...households, ...Array(unnamed).fill("")];
-  const isTold = (id, at) => records[at][0] === id && (id !== "" || records[at][12] in OF_IDS);
+  const isTold = (id, at) => records[at][0] === id && (id !== "" || OF_IDS.includes(records[at][12]));
   const isTable = names?.join() === COLUMNS.join() && records.length === ids.length;
   if (!isTable || !records.every(isRow) || !ids.every(isTold)) {
-    throw new Error("the program gave no table of these households");
+    throw new Error("the program gave no table of these units");
   }
   return records.map((fields) => Object.fromEntries(COLUMNS.map((it, at) => [it, fields[at]])));
 }
@@ -75,13 +72,16 @@ export function rowAt(row, numbers, place) {
   if (!row.fault) return { ...row, told: "" };
   const record = row.record ? numbers[Number(row.record) - 1] : 0;
   const at = place({ record, column: Number(row.column) });
-  const told = `${row.fault}${placeInWords(at)}. ${OF_IDS[row.fault] ?? FAULTS[row.fault] ?? ""}`;
+  const told = `${row.fault}${placeInWords(at)}. ${meansOf(row.fault)}`;
   const text = (number) => (number ? String(number) : "");
   return { ...row, record: text(record), column: text(at.column), told };
 }
 
-/** The records of a table for a file: a spreadsheet takes no id of it for a formula. */
-export function tableRecords(rows) {
+/**
+ * The records of a table for a file, under the name that the user's column of ids has: a spreadsheet takes no id of it
+ * for a formula.
+ */
+export function tableRecords(rows, name = COLUMNS[0]) {
   const field = (row, it) => (it === "household" ? forSpreadsheet(row[it]) : row[it]);
-  return [COLUMNS, ...rows.map((row) => COLUMNS.map((it) => field(row, it)))];
+  return [[name, ...COLUMNS.slice(1)], ...rows.map((row) => COLUMNS.map((it) => field(row, it)))];
 }

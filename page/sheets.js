@@ -290,7 +290,7 @@ export const ROLES = [
   { key: "most", says: "the most of the good that the budget buys (intercept)", good: true },
   { key: "level", says: "own level, in thousandths (e)" },
   { key: "label", says: "label of the observation (obs)" },
-  { key: "household", says: "household or subject: one table each" },
+  { key: "household", says: "subject or household: one table each" },
   { key: "out", says: "leave it out" },
   { key: "same", says: "as it stands" },
   { key: "open", says: "choose what it is" },
@@ -308,6 +308,8 @@ const EXTREME = /^(?:(?:max|most|intercept|min|least)[_. -]+(.+)|(.+?)[_. -]+(?:
 
 /** The good of which a column has the most that the budget buys, by its name; nothing where it has none. */
 function mostOf(name) {
+  // As the clients have it: i_NAME.
+  if (/^i_./.test(name)) return name.slice(2);
   const found = EXTREME.exec(name);
   return found && !/min|least/i.test(name) ? (found[1] ?? found[2]) : null;
 }
@@ -316,7 +318,7 @@ function mostOf(name) {
 function guessed(name) {
   if (HOUSEHOLD.test(name)) return { role: "household", good: "" };
   if (LABEL.test(name)) return { role: "label", good: "" };
-  if (EXTREME.test(name)) return { role: "out", good: "" };
+  if (EXTREME.test(name) || /^i_./.test(name)) return { role: "out", good: "" };
   const guess = GUESSES.map(([pattern, role]) => ({ role, good: pattern.exec(name)?.[1] })).find((it) => it.good);
   return guess ?? { role: "out", good: "" };
 }
@@ -441,10 +443,10 @@ export function lacksOf(mapping, header) {
     return (
       `Each value of the column ${header[open]} stands in one record. If it numbers the records, they are one table: ` +
       "take " +
-      "it for the label, or leave it out. If it tells households apart, each has one record, which can violate nothing."
+      "it for the label, or leave it out. If it tells units apart, each has one record, which can violate nothing."
     );
   }
-  if (mapping.roles.filter((it) => it.role === "household").length > 1) return "Two columns are the household.";
+  if (mapping.roles.filter((it) => it.role === "household").length > 1) return "Two columns are the subject or household.";
   const names = mapping.names(header).filter(Boolean);
   const twice = names.find((it, at) => names.indexOf(it) !== at);
   if (twice) return `Two columns are ${twice}.`;

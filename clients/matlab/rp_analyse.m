@@ -2,7 +2,8 @@ function verdict = rp_analyse(p, q, varargin)
 % RP_ANALYSE  Whether one consumer could have made these purchases, how far off they are, and by what evidence.
 %
 %   v = rp_analyse(p, q)             p and q are matrices: a row for each observation, a column for each good
-%   v = rp_analyse(p, q, 'Levels', e)                e(t), whole thousandths, is the level of observation t alone (Varian 1990)
+%   v = rp_analyse(p, q, 'Levels', 0.95)             efficiency levels, a share or thousandths (950): one for all observations, or
+%                                                    one for each (Varian 1990)
 %   v = rp_analyse(p, q, 'Decimals', [2 0])          prices are rounded to 2 decimal places, quantities to none
 %   v = rp_analyse(p, q, 'Numbers', 'exact')         a double is the binary fraction that it is, so 3.18 is refused
 %   v = rp_analyse(p, q, 'Wide', false)              the library as it is, and not what its wider edition gives beside

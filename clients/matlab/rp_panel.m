@@ -1,25 +1,25 @@
 function found = rp_panel(t, key, varargin)
-% RP_PANEL  The verdicts on each household of a long table, by the library's call of panels.
+% RP_PANEL  The verdicts on each unit (subject, household, region) of a long table, by the library's call of panels.
 %
-%   r = rp_panel(t, 'household')               t is a table, or a struct of columns: p_NAME and q_NAME for each good, and the key;
+%   r = rp_panel(t, 'subject')                 t is a table, or a struct of columns: p_NAME and q_NAME for each good, and the key;
 %                                              a column e has levels of the observations, and obs their labels
-%   r = rp_panel(t, {'town', 'household'})     several columns tell the households apart
+%   r = rp_panel(t, {'town', 'subject'})       several columns tell the units apart
 %   r = rp_panel(.., 'Pump', true)             the greatest money pump ratio too
 %   r = rp_panel(.., 'Power', 100, 'Seed', 7)  how many of 100 random behaviours on the same budgets violate the axiom
 %   r = rp_panel(.., 'Wide', false)            the library as it is, and not what its wider edition gives beside
 %
-% Rows stand in the order in which they were chosen; households come in the order in which they first appear, and behind them the
-% rows that have no household. Blanks round a key are cut. 'Decimals' and 'Numbers' are those of rp_analyse. r is a struct array, of
-% which struct2table makes a table; the key has its own name, and the other fields are those of every table of households:
+% Rows stand in the order in which they were chosen; units come in the order in which they first appear, and behind them the
+% rows that have no unit. Blanks round a key are cut. 'Decimals' and 'Numbers' are those of rp_analyse. r is a struct array, of
+% which struct2table makes a table; the key has its own name, and the other fields are those of every panel:
 %
-%   observations, goods               how many the household has
+%   observations, goods               how many the unit has
 %   garp, attained                    true or false
 %   homothetic, quasilinear           the same; NaN where it is withheld
 %   efficiency, pump, power           exactly, as texts such as '4/5'; power has the violations over the draws
 %   efficiency_floor, pump_floor      the same as numbers of six places, rounded down; ccei is the nearest double to the index
 %   fault                             '' or why there are no verdicts, with the record and the column of t, and in words as refusal
 %
-% A household with a fault takes no other with it. Where all have the same, that is an error.
+% A unit with an error takes no other with it. Where all have the same, that is an error.
 %
 % See also rp_analyse.
   known = struct('Pump', false, 'Power', [], 'Seed', 1, 'Wide', true, 'Decimals', [], 'Numbers', 'shortest');
@@ -30,7 +30,7 @@ function found = rp_panel(t, key, varargin)
   found = rp_found(long, rows);
   faults = unique({found.fault});
   if numel(faults) == 1 && ~isempty(faults{1})
-    error('rp:Refused:All', 'all households are refused for one cause, the first by: %s', found(1).refusal);
+    error('rp:Refused:All', 'all units have one error, the first: %s', found(1).refusal);
   end
 end
 

@@ -1,7 +1,7 @@
 *! version 0.17.0  rptest: revealed preference tests by the program rp
 program define rptest, rclass sortpreserve
     version 13
-    syntax [if] [in], Prices(varlist numeric) Quantities(varlist numeric) [BY(varlist) LEVels(varname numeric) OBS(varname) DIGITS(numlist integer max=2 >=0 <=6) PUMP POWer(integer 0) SEED(integer 1) NEWprices(numlist >0) MONEY(numlist >0 max=1) EXE(string) NOWIDE GENerate(name) SAVing(string)]
+    syntax [if] [in], Prices(varlist numeric) Quantities(varlist numeric) [BY(varlist) LEVels(varname numeric) OBS(varname) DECimals(numlist integer max=2 >=0 <=6) DIGITS(numlist integer max=2 >=0 <=6) UNITS(string) PUMP POWer(integer 0) SEED(integer 1) NEWprices(numlist >0) MONEY(numlist >0 max=1) EXE(string) NOWIDE GENerate(name) SAVing(string)]
     if "`c(os)'" == "Windows" {
         display as error "rptest starts the program by a script for sh, which Windows has not: run rp.exe by shell, as clients/README.md describes"
         exit 198
@@ -13,8 +13,15 @@ program define rptest, rclass sortpreserve
         display as error "prices() and quantities() have not the same number of variables"
         exit 198
     }
-    local ofprices : word 1 of `digits'
-    local ofquantities : word 2 of `digits'
+    * The older name of decimals().
+    if "`decimals'" == "" {
+        local decimals "`digits'"
+    }
+    if "`units'" == "" {
+        local units = cond("`by'" == "", "tables", "groups")
+    }
+    local ofprices : word 1 of `decimals'
+    local ofquantities : word 2 of `decimals'
     if "`ofquantities'" == "" {
         local ofquantities "`ofprices'"
     }
@@ -44,7 +51,7 @@ program define rptest, rclass sortpreserve
     if `power' > 0 {
         local results "`results' power"
     }
-    * With by() they are the columns that a table of households has everywhere.
+    * With by() they are the columns that a panel has everywhere.
     if "`by'" != "" {
         local numbers "observations goods garp efficiency_floor attained homothetic quasilinear pump_floor record column"
         local texts "efficiency pump power fault"
@@ -93,7 +100,7 @@ program define rptest, rclass sortpreserve
         if "`panel'" != "" {
             quietly summarize `panel' if `touse'
             if r(min) < r(max) {
-                display as error "the data are a panel of `panel', and a table is one household: say by(`panel')"
+                display as error "the data are a panel of `panel'. Use by(`panel'), which tests each unit of the panel"
                 exit 459
             }
         }
@@ -128,13 +135,13 @@ program define rptest, rclass sortpreserve
         sort `group' `obs'
         quietly count if `named' & `group' == `group'[_n-1] & `obs' == `obs'[_n-1]
         if r(N) > 0 {
-            display as error "two observations of one table have the same `obs': name the households by by()"
+            display as error "two observations of one table have the same `obs'. Use by() with the variable that tells the units apart"
             exit 459
         }
     }
     sort `group' `order'
 
-    * A missing value refuses its own group. The other numbers have to be exact: with digits(), text of so many places;
+    * A missing value refuses its own group. The other numbers have to be exact: with decimals(), text of so many places;
     * else doubles that end after six binary places.
     tempvar lacks refused
     quietly generate byte `lacks' = 0
@@ -162,19 +169,19 @@ program define rptest, rclass sortpreserve
             display as text "note: a level of 1 is one thousandth, which excuses nearly everything; 1000 is the whole of what was spent"
         }
     }
-    if "`digits'" == "" & `moved' > 0 {
+    if "`decimals'" == "" & `moved' > 0 {
         local fitprices : word 1 of `fits'
         local fitquantities : word 2 of `fits'
-        display as error "`moved' numbers have more than 6 places as binary fractions; nothing is rounded unasked"
-        display as error "digits(`fitprices' `fitquantities') rounds prices and quantities to the most places that fit the seven digits that are taken;"
-        display as error "a place below 0 says that the largest is above 9999999: take a larger unit. Prices that are 1 over an"
-        display as error "intercept need no rounding: take the intercept of y as the price of x, and that of x as the price of y"
+        display as error "`moved' numbers need more than 6 decimal places, as binary fractions. Nothing is rounded without an option."
+        display as error "If prices are 1 over an intercept, take the intercept of y as the price of x, and that of x as the price of y."
+        display as error "decimals(`fitprices' `fitquantities') rounds prices and quantities to the most decimal places that fit 7 digits."
+        display as error "If one of the two is below 0, take a larger unit. Rounded prices can change a verdict."
         exit 459
     }
-    local ofprices = cond("`digits'" == "", "6", "`ofprices'")
-    local ofquantities = cond("`digits'" == "", "6", "`ofquantities'")
+    local ofprices = cond("`decimals'" == "", "6", "`ofprices'")
+    local ofquantities = cond("`decimals'" == "", "6", "`ofquantities'")
     quietly egen byte `refused' = max(`lacks'), by(`group')
-    * Of households the program tells it, with its place.
+    * With by() the program tells it, with its place.
     if "`by'" != "" {
         quietly replace `refused' = 0
     }
@@ -294,7 +301,7 @@ program define rptest, rclass sortpreserve
                 local of "`of' `kind' `variable'"
             }
         }
-        local kinds "str80 efficiency str80 pump_ratio str2045 cycle str80 wide str200 message"
+        local kinds "str80 efficiency str80 pump_ratio str2045 cycle str80 wide str400 message"
         if "`by'" != "" {
             local kinds "str80 efficiency str80 pump str80 power str80 fault"
         }
@@ -429,13 +436,26 @@ program define rptest, rclass sortpreserve
     if `"`saving'"' != "" {
         postclose `posted'
     }
-    foreach name in header program rows results asks new bounds {
+    * What is wrong with groups, and what to do: a number of lines, and the lines.
+    capture confirm file `"`macval(room)'/hints"'
+    if _rc == 0 {
+        file open `file' using `"`macval(room)'/hints"', read text
+        file read `file' lines
+        local line = 1
+        while `line' <= `lines' {
+            file read `file' said
+            display as text "`said'"
+            local line = `line' + 1
+        }
+        file close `file'
+    }
+    foreach name in header program rows results asks new bounds hints {
         capture erase `"`macval(room)'/`name'"'
     }
     capture rmdir `"`macval(room)'"'
-    display as text "`groups' tables: garp holds in `held', and `without' are without a verdict"
+    display as text "`groups' `units': GARP holds in `held', and `without' are without a verdict"
     if `unnamed' > 0 {
-        display as text "`unnamed' observations have no household (`by'), the first of them observation `nameless': they are in no table"
+        display as text "`unnamed' observations have no id (`by'), the first of them observation `nameless': they are in no table"
     }
     if `small' {
         matrix list `verdicts', noheader

@@ -8,17 +8,21 @@
 #   header    the first line of each table
 #   program   one line, the path of the program; where it is empty, the variable RP_EXEC names it, else it is rp on the path
 #   asks      a line for each question beside the verdicts: `pump`, `power SEED DRAWS`, and `demand GOODS` or `welfare GOODS`;
-#             `panel` where the tables are those of households, which the program rp-panel answers all together;
+#             `panel` where the tables are those of the units of a panel, which the program rp-panel answers all together;
 #             and `nowide` where what the program withholds is not asked of rp-wide: that of RP_WIDE, else the one beside the program
 #   new       new prices, and for demand what is spent, where these are asked
 # and gets `results`, of each group its number and fourteen lines: status, garp, afriat, homothetic, quasilinear and attained
 # (1, 0 or .), the efficiency index as the nearest double, but below 1 unless it is 1, the money pump ratio and the power as
 # doubles; as texts the index and the ratio as fractions, the cycle that violates GARP, what rp-wide gave and rp itself withholds, and a message; then for demand two
 # lines for each good, its bounds as doubles near them. For welfare it gets `bounds` too, a line with both for each record.
-# Of households the fourteen lines are observations, goods, garp, efficiency_floor, attained, homothetic, quasilinear, pump_floor,
-# record and column; as texts efficiency, pump, power and fault. What is no table of just these households gives no results.
+# Where groups have errors and `panel` is asked, it gets `hints`: a number of lines, and of each error how many groups have it, and what to do.
+# Of units the fourteen lines are observations, goods, garp, efficiency_floor, attained, homothetic, quasilinear, pump_floor,
+# record and column; as texts efficiency, pump, power and fault. What is no table of just these units gives no results.
 # A number that is not there is a point. No text of these files, of the variable or of what the program says is read by a shell as more than a text.
 here=$PWD
+# The sentences of the catalogue, beside this script: lines of a code, a bar, and what is wrong and what to do.
+case $0 in /*) hints=${0%/*}/rptest_hints.txt ;; */*) hints=$here/${0%/*}/rptest_hints.txt ;; *) hints=$here/rptest_hints.txt ;; esac
+[ -r "$hints" ] || hints=/dev/null
 cd -- "$1" || exit 1
 room=$PWD
 IFS= read -r rp <program || :
@@ -57,7 +61,7 @@ else
   more="rp-wide may give it"
 fi
 export pump power new wide panel
-# Households: one long file, whose ids are the numbers of the groups, and one call.
+# Units: one long file, whose ids are the numbers of the groups, and one call.
 if [ -n "$panel" ]; then
   program=${RP_PANEL:-}
   found=$(command -v -- "$rp" || :)
@@ -90,6 +94,8 @@ cd tables || exit 1
 # Twenty-five tables are one shell's, so that thousands do not wait for as many shells. Their names are numbers.
 # shellcheck disable=SC2012,SC2016
 ls | sed 's/[.]csv$//' | sort -n | xargs -P "$(nproc 2>/dev/null || echo 2)" -n 25 sh -c '
+  # What a program adds to its own line begins with a word of its own.
+  first() { grep -v "^note: " "$1" | grep -v "^hint: "; }
   for n do
     [ -n "$panel" ] || {
     "$rp" analyse "$n.csv" >"$n.out" 2>"$n.err" </dev/null
@@ -99,14 +105,14 @@ ls | sed 's/[.]csv$//' | sort -n | xargs -P "$(nproc 2>/dev/null || echo 2)" -n 
       "$wide" analyse "$n.csv" >"$n.out" 2>"$n.err" </dev/null
       echo $? >"$n.status"
     fi
-    [ -z "$pump" ] || "$rp" pump "$n.csv" >"$n.pump" 2>"$n.why" </dev/null || echo "pump $(cat "$n.why")" >>"$n.less"
+    [ -z "$pump" ] || "$rp" pump "$n.csv" >"$n.pump" 2>"$n.why" </dev/null || echo "pump $(first "$n.why")" >>"$n.less"
     # shellcheck disable=SC2086
-    [ -z "$power" ] || "$rp" power "$n.csv" $power >"$n.power" 2>"$n.why" </dev/null || echo "power $(cat "$n.why")" >>"$n.less"
+    [ -z "$power" ] || "$rp" power "$n.csv" $power >"$n.power" 2>"$n.why" </dev/null || echo "power $(first "$n.why")" >>"$n.less"
     }
-    [ -z "$new" ] || "$rp" "$new" "$n.csv" ../new >"$n.new" 2>"$n.why" </dev/null || echo "$new $(cat "$n.why")" >>"$n.less"
+    [ -z "$new" ] || "$rp" "$new" "$n.csv" ../new >"$n.new" 2>"$n.why" </dev/null || echo "$new $(first "$n.why")" >>"$n.less"
     if [ -n "$new" ] && [ -n "$wide" ] && grep -q " withheld " "$n.new"; then
       mv "$n.new" "$n.held"
-      "$wide" "$new" "$n.csv" ../new >"$n.new" 2>"$n.why" </dev/null || echo "$new $(cat "$n.why")" >>"$n.less"
+      "$wide" "$new" "$n.csv" ../new >"$n.new" 2>"$n.why" </dev/null || echo "$new $(first "$n.why")" >>"$n.less"
     fi
   done' sh 2>/dev/null
 # How many times ten the new prices are to be taken to be whole.
@@ -117,7 +123,7 @@ places=0
 # shellcheck disable=SC2012
 ls | sed -n 's/[.]csv$//p' | sort -n >../groups
 if [ -n "$panel" ]; then
-  if ! awk -v new="$new" -v goods="$goods" -v places="$places" '
+  if ! awk -v new="$new" -v goods="$goods" -v places="$places" -v hints="$hints" '
   function near(fraction, over,   part) {
     if (fraction !~ /^-?[0-9]+(\/[0-9]+)?$/) return "."
     split(fraction, part, "/")
@@ -152,6 +158,7 @@ if [ -n "$panel" ]; then
     group = $0
     if ((getline < "../verdicts") < 1 || NF != 15 || $1 != group || !is_row()) exit failed = 1
     fault = $13; split("", low); split("", high)
+    if (fault != "") count_with[fault]++
     print group; print given($2); print given($3); print truth($4); print given($6); print truth($7); print truth($8); print truth($9)
     print given($11); print given($14); print given($15); print $5; print $10; print $12; print fault
     while (fault == "" && new != "" && (getline line < (group ".new")) > 0) {
@@ -167,17 +174,24 @@ if [ -n "$panel" ]; then
     for (good = 1; new == "demand" && good <= goods; good++) { print given(low[good]); print given(high[good]) }
     for (at = 1; new == "welfare" && at <= count_of[group]; at++) print given(low[at]) " " given(high[at]) > "../bounds"
   }
-  END { if (failed || (getline < "../verdicts") > 0) exit 1 }
+  END {
+    if (failed || (getline < "../verdicts") > 0) exit 1
+    while ((getline line < hints) > 0) { at = index(line, "|"); sentence[substr(line, 1, at - 1)] = substr(line, at + 1) }
+    for (fault in count_with) lines++
+    if (lines) print lines > "../hints"
+    for (fault in count_with) print count_with[fault] " with the error " fault (fault in sentence ? ": " sentence[fault] : "") > "../hints"
+  }
   ' ../rows ../groups >../answers; then
-    echo "rptest.sh: $program gave no table of these households" >&2
-    rm -f ../answers ../groups ../bounds
+    echo "rptest.sh: $program gave no table of these units" >&2
+    rm -f ../answers ../groups ../bounds ../hints
     exit 1
   fi
   rm -f ../groups
   mv ../answers ../results
   exit 0
 fi
-awk -v pump="$pump" -v power="$power" -v new="$new" -v goods="$goods" -v places="$places" -v more="$more" '
+awk -v pump="$pump" -v power="$power" -v new="$new" -v goods="$goods" -v places="$places" -v more="$more" -v hints="$hints" '
+  BEGIN { while ((getline line < hints) > 0) { at = index(line, "|"); sentence[substr(line, 1, at - 1)] = substr(line, at + 1) } }
   function value(word) { return word == "holds" || word == "model" ? 1 : word == "violated" || word == "none" ? 0 : "." }
   # The double nearest to a fraction of whole numbers below 2^53, where `over` is 1, and else one near it; but only 1 reads 1.
   function near(fraction, over,   part, found) {
@@ -210,10 +224,14 @@ awk -v pump="$pump" -v power="$power" -v new="$new" -v goods="$goods" -v places=
     split("", is); is["garp"] = is["afriat"] = is["homothetic"] = is["quasilinear"] = is["attained"] = "."
     if ((getline status < (group ".status")) < 1) status = "."
     close(group ".status")
-    while ((getline line < (group ".err")) > 0) if (message == "" && line !~ /^note: /) message = line
+    while ((getline line < (group ".err")) > 0) if (message == "" && line !~ /^(note|hint): /) message = line
     close(group ".err")
     own = "rp: " group ".csv: "
-    if (substr(message, 1, length(own)) == own) message = substr(message, length(own) + 1)
+    if (substr(message, 1, length(own)) == own) {
+      message = substr(message, length(own) + 1)
+      split(message, word, " ")
+      if (word[1] in sentence) message = message ": " sentence[word[1]]
+    }
     while (status == "0" && (getline line < (group ".out")) > 0) {
       count = split(line, word, " ")
       if ((word[1] in is) && word[1] != "attained") is[word[1]] = value(word[2])
@@ -256,7 +274,7 @@ awk -v pump="$pump" -v power="$power" -v new="$new" -v goods="$goods" -v places=
     gsub(/[^A-Za-z0-9 .,:;_\/()+-]/, "?", message)
     gsub(/[^0-9 ]/, "?", cycle)
     print group; print status; print is["garp"]; print is["afriat"]; print is["homothetic"]; print is["quasilinear"]; print is["attained"]
-    print ccei; print near(ratio, 1); print share; print efficiency; print ratio; print cycle; print wide; print substr(message, 1, 200)
+    print ccei; print near(ratio, 1); print share; print efficiency; print ratio; print cycle; print wide; print substr(message, 1, 400)
     for (good = 1; new == "demand" && good <= goods; good++) { print given(low[good]); print given(high[good]) }
     for (at = 1; new == "welfare" && at <= count_of[group]; at++) print given(low[at]) " " given(high[at]) > "../bounds"
   }

@@ -6,7 +6,7 @@
 {title:Syntax}
 
 {p 8 16 2}{cmd:rptest} [{it:if}] [{it:in}]{cmd:,} {opt p:rices(varlist)} {opt q:uantities(varlist)}
-[{opt by(varlist)} {opt lev:els(varname)} {opt obs(varname)} {opt digits(# [#])} {opt pump} {opt pow:er(#)} {opt seed(#)}
+[{opt by(varlist)} {opt lev:els(varname)} {opt obs(varname)} {opt dec:imals(# [#])} {opt units(name)} {opt pump} {opt pow:er(#)} {opt seed(#)}
 {opt new:prices(# # ..)} {opt money(#)} {opt gen:erate(stub)} {opt sav:ing(filename[, replace])} {opt exe(filename)} {opt nowide}]
 
 {title:Description}
@@ -32,9 +32,11 @@ counts (Varian 1990). GARP and Afriat numbers use these levels.
 {phang}{opt obs(varname)} has the names of the observations, such as a year or a round. If two observations of one table have the same
 name, the command stops with r(459). The data are then a panel, and {opt by()} names its units.
 
-{phang}{opt digits(# [#])} rounds to this number of decimal places, 0 to 6: one number for prices and quantities, or one for each.
+{phang}{opt decimals(# [#])} rounds to this number of decimal places, 0 to 6: one number for prices and quantities, or one for each.
 Without it nothing is rounded. A double such as 3.18 is a binary fraction with more than 6 decimal places, and stops the command with
-r(459). The message says which {opt digits()} fit.
+r(459). The message says which {opt decimals()} fit. {opt digits()} is an older name of this option.
+
+{phang}{opt units(name)} is what the groups are called, such as subjects, in what is displayed.
 
 {phang}{opt pump} adds the maximum money pump index of each group (Echenique, Lee and Shum 2011).
 
@@ -58,7 +60,7 @@ variable RP_WIDE names it, or it is the one beside the program.
 
 {title:Remarks and examples}
 
-{phang2}{cmd:. rptest, prices(p_bread p_wine) quantities(q_bread q_wine) by(household) digits(2) generate(v)}{p_end}
+{phang2}{cmd:. rptest, prices(p_bread p_wine) quantities(q_bread q_wine) by(subject) decimals(2) units(subjects) generate(v)}{p_end}
 {phang2}{cmd:. summarize v_garp v_efficiency_floor}{p_end}
 {phang2}{cmd:. count if v_efficiency_floor >= 0.95}{p_end}
 

@@ -6,15 +6,14 @@ import assert from "node:assert/strict";
 import { readFileSync } from "node:fs";
 import { test } from "node:test";
 import { boundOf } from "./answers.js";
-import { aboveThresholds, drawBehaviours, shareInWords } from "./benchmark.js";
+import { atThresholds, drawBehaviours, shareInWords } from "./benchmark.js";
 import { wordsOf } from "./command.js";
 import { amountsOf, behaviour, drawnFile, words } from "./draws.js";
-import { commands, facts, limit, range } from "./facts.js";
+import { commands, facts, limit, range, sentenceOf, unitsBy } from "./facts.js";
 import { boundRows } from "./panel_questions.js";
 import { equalUtility, utilityOf } from "./pictures.js";
 import { nameBeside, withLevel } from "./questions.js";
 import {
-  FAULTS,
   Purchases,
   about,
   asNumber,
@@ -23,7 +22,8 @@ import {
   decimal,
   decimalOf,
   inUnits,
-  isAbove,
+  isAtLeast,
+  meansOf,
   numbersIn,
   offered,
   offeredSays,
@@ -102,15 +102,37 @@ test("what a checked certificate proves, item by item", () => {
     "Item 3: homothetic: withheld: nothing is proved.",
     "Item 4: bounds of demand on a new budget, but for those that it withholds: proved.",
   ]);
-  assert.match(checkInWords("rejected item 2 Shape place 0\n", text)[0], /^Item 2 is the first .* proves nothing/);
-  assert.match(checkInWords("rejected item 0 Levels place 1\n", text)[0], /^The certificate as a whole is no proof/);
+  const rejected = checkInWords("rejected item 2 Shape place 0\n", text);
+  assert.equal(rejected[0], "Item 2 claims: the CCEI is 4/5 (0.8), attained.");
+  assert.equal(rejected[1], sentenceOf("reason", "Shape"));
+  assert.match(rejected[2], /^Item 2 is the first .* proves nothing/);
+  assert.match(checkInWords("rejected item 0 Levels place 1\n", text)[1], /^The certificate as a whole does not prove/);
   const none = checkInWords("accepted items 0 withheld 0\n", '{"items":[]}');
   assert.deepEqual(none, ["It has no items, so nothing is proved."]);
 });
 
-test("each fault of the catalogue has words, and no other has", () => {
-  assert.deepEqual(Object.keys(FAULTS).sort(), facts().faults.map((it) => it.name).sort());
-  for (const says of Object.values(FAULTS)) assert.match(says, /^[A-Z][^]*[.?]$/);
+test("each fault and each reason has the words of the catalogue, without options of commands", () => {
+  for (const name of [...facts().faults.map((it) => it.name), "NoId", "LongId"]) {
+    assert.match(meansOf(name), /^[A-Z][^]*[.]$/, name);
+    assert.doesNotMatch(meansOf(name), /--(?:per|id)/, name);
+  }
+  for (const reason of facts().reasons) assert.match(sentenceOf("reason", reason), /^[A-Z][^]*[.]$/, reason);
+  const { wrong } = facts().hints.find((it) => it.code === "ZeroPrice");
+  assert.ok(meansOf("ZeroPrice").startsWith(wrong));
+});
+
+test("columns i_NAME are the intercepts of budget lines, as the clients have them", () => {
+  const mapping = Mapping.suggested(["subject", "i_x", "i_y", "q_x", "q_y"], [["subject"], ["1"], ["1"]]);
+  assert.deepEqual(mapping.roles.map((it) => it.role), ["household", "most", "most", "same", "same"]);
+  assert.ok(mapping.hasOwnMoney);
+  // Beside prices they are none.
+  const beside = Mapping.suggested(["i_x", "p_x", "q_x"]);
+  assert.deepEqual(beside.roles.map((it) => it.role), ["out", "same", "same"]);
+});
+
+test("units are called by the name of their column", () => {
+  const names = ["subject", "Subject_ID", " hh ", "town", "firm no"];
+  assert.deepEqual(names.map(unitsBy), ["subjects", "subjects", "households", "units", "firms"]);
 });
 
 test("each line of a fault is read with its places", () => {
@@ -122,10 +144,13 @@ test("each line of a fault is read with its places", () => {
       assert.equal(found.file, "t.csv");
       assert.equal(found.record, own.includes("record") ? own.indexOf("record") + 2 : 0);
       assert.equal(found.column, own.includes("column") ? own.indexOf("column") + 2 : 0);
-      assert.equal(found.means, FAULTS[name]);
+      assert.equal(found.means, meansOf(name));
       assert.equal(parseFault(`rp: ${told}\n`).file, "");
     }
   }
+  // What the program adds to its line is no part of it.
+  const more = parseFault("rp-wide: t.csv: ZeroPrice record 1 column 2\nhint: This price is 0.\nnote: more\n");
+  assert.deepEqual([more.file, more.fault, more.record, more.column], ["t.csv", "ZeroPrice", 1, 2]);
   assert.equal(parseFault("usage: rp pairs TABLE\n"), null);
   assert.equal(parseFault("rp: t.csv: read failed\n"), null);
 });
@@ -432,7 +457,7 @@ test("ids are without the blanks round them, and records without one are none's"
   const [row] = rowsOf(`${HEAD},,,,,,,,,,,,NoId,1,\n,,,,,,,,,,,,NoId,2,\n`, files[1]).map((it) =>
     rowAt(it, files[1].numbers, nowhere));
   assert.deepEqual([row.household, row.record], ["", "3"]);
-  assert.match(row.told, /^NoId\. This record has no household/);
+  assert.match(row.told, /^NoId\. This row has an empty id/);
 });
 
 test("the rows of households: their verdicts, or a fault; and what is no table of theirs is no answer", () => {
@@ -445,7 +470,7 @@ test("the rows of households: their verdicts, or a fault; and what is no table o
   const wrong = ["", "usage\n", HEAD, HEAD + good[0], HEAD + good.join("") + good[1], good.join("")];
   wrong.push(HEAD + good[1] + good[0]);
   wrong.push(`${HEAD}${good[0]}v,,,,,,,,,,,,,,\n`, `${HEAD}${good[0]}v,1,2,maybe,1,1.000000,yes,holds,holds,,,,,,\n`);
-  for (const output of wrong) assert.throws(() => rowsOf(output, asked), /gave no table of these households/);
+  for (const output of wrong) assert.throws(() => rowsOf(output, asked), /gave no table of these units/);
 });
 
 test("the power of each household is a column of the same call, where it is asked", () => {
@@ -457,9 +482,9 @@ test("the power of each household is a column of the same call, where it is aske
   const [u, v] = rowsOf(output("14/200"), asked, power);
   assert.deepEqual([u.power, v.power], ["14/200", ""]);
   for (const told of ["", "14/100", "14", "7/100"]) {
-    assert.throws(() => rowsOf(output(told), asked, power), /gave no table of these households/);
+    assert.throws(() => rowsOf(output(told), asked, power), /gave no table of these units/);
   }
-  assert.throws(() => rowsOf(output("14/200"), asked), /gave no table of these households/);
+  assert.throws(() => rowsOf(output("14/200"), asked), /gave no table of these units/);
 });
 
 test("a spreadsheet takes no id for a formula", () => {
@@ -542,9 +567,9 @@ test("drawn behaviour spends no more than was spent, and its shares are uniform"
   }
 });
 
-test("shares above thresholds are counted exactly, an index at one not", () => {
-  assert.deepEqual(aboveThresholds(["9/10", "900001/1000000", "19/20", "950001/1000000", "1", "4/5"]), [4, 2]);
-  assert.ok(!isAbove("9/10", 90, 100) && isAbove("1", 95, 100));
+test("shares of at least a threshold are counted exactly, an index at one too", () => {
+  assert.deepEqual(atThresholds(["9/10", "899999/1000000", "19/20", "949999/1000000", "1", "4/5"]), [4, 2]);
+  assert.ok(isAtLeast("9/10", 90, 100) && !isAtLeast("89/100", 90, 100));
   assert.equal(shareInWords(12, 20), "12 of 20 (60.0%)");
 });
 

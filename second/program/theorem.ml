@@ -192,20 +192,47 @@ let stated_over claim =
   | WelfareViolated -> [ ("welfare_no_consumer_over", none spent) ]
   | Nothing -> []
 
-let write ~table_name ~table_text ~certificate_name ~certificate_text tb claims =
-  let out = Buffer.create 65536 in
-  let say form = Printf.kbprintf (fun out -> Buffer.add_char out '\n') out form in
-  let comment name = String.map (fun c -> if c = '*' || c = '"' || c = '(' || c < ' ' then '.' else c) name in
-  say "(* The verdicts on the table %s, from the certificate %s, as theorems." (comment table_name) (comment certificate_name);
+(* What stands at the head of a file of theorems, and its comments. *)
+let say_to out form = Printf.kbprintf (fun out -> Buffer.add_char out '\n') out form
+let comment name = String.map (fun c -> if c = '*' || c = '"' || c = '(' || c < ' ' then '.' else c) name
+let head out what modules =
+  let say form = say_to out form in
+  say "(* The verdicts on %s, as theorems." what;
   say "   Written by rp-second --theorem; Coq proves it:  coqc -Q second/theories Second THIS_FILE";
   say "   The definitions are in second/theories/Spec*.v; second/DEFINITIONS.md reads them. *)";
   say "From Coq Require Import ZArith QArith List String.";
-  say "From Second Require Import Judge SpecOver OverClaims Reals.";
+  say "From Second Require Import %s." modules;
   say "Import ListNotations.";
   say "Open Scope Z_scope.";
   say "Open Scope string_scope.";
   say "Open Scope list_scope.";
-  say "";
+  say ""
+
+(* Names that stand once each. *)
+let fresh_names () =
+  let used = Hashtbl.create 16 in
+  fun name ->
+    let n = try Hashtbl.find used name + 1 with Not_found -> 1 in
+    Hashtbl.replace used name n;
+    if n = 1 then name else sprintf "%s_%d" name n
+
+(* What the theorems rest on: those over every field on no axiom, and those over the reals on the library's. *)
+let foot out names over =
+  let say form = say_to out form in
+  say "(* None of them rests on an axiom. *)";
+  say "Definition every_theorem := (%s)." (String.concat ",\n  " (List.rev names));
+  say "Print Assumptions every_theorem.\n";
+  if over <> [] then begin
+    say "(* The same of people with real quantities; under it are the axioms of Coq's library of real numbers. *)";
+    say "Definition with_real_quantities := (%s)." (String.concat ", " (List.rev over));
+    say "Print Assumptions with_real_quantities."
+  end
+
+let write ~table_name ~table_text ~certificate_name ~certificate_text tb claims =
+  let out = Buffer.create 65536 in
+  let say form = say_to out form in
+  head out (sprintf "the table %s, from the certificate %s" (comment table_name) (comment certificate_name))
+    "Judge SpecOver OverClaims Reals";
   say "(* The bytes of both files. *)";
   say "Definition table_file : bytes := %s.\n" (literal table_text);
   say "Definition certificate_file : bytes := %s.\n" (literal certificate_text);
@@ -220,11 +247,7 @@ let write ~table_name ~table_text ~certificate_name ~certificate_text tb claims 
   say "(* The table is what the bytes denote, and they denote no other. *)";
   say "Theorem table_denoted : denotes table_file observed /\\ forall other, denotes table_file other -> other = observed.";
   say "Proof. exact (judged_table judged). Qed.\n";
-  let used = Hashtbl.create 16 and names = ref [ "table_denoted" ] in
-  let fresh name =
-    let n = try Hashtbl.find used name + 1 with Not_found -> 1 in
-    Hashtbl.replace used name n;
-    if n = 1 then name else sprintf "%s_%d" name n in
+  let fresh = fresh_names () and names = ref [ "table_denoted" ] in
   List.iteri (fun k claim ->
       List.iter (fun (name, statement, proof) ->
           let name = fresh name in
@@ -244,12 +267,75 @@ let write ~table_name ~table_text ~certificate_name ~certificate_text tb claims 
           say "Proof. intros K. exact (judge_claim_over judged %d%%nat eq_refl K). Qed.\n" k)
         (stated_over claim))
     claims;
-  say "(* None of them rests on an axiom. *)";
-  say "Definition every_theorem := (%s)." (String.concat ",\n  " (List.rev !names));
-  say "Print Assumptions every_theorem.\n";
-  if !over <> [] then begin
-    say "(* The same of people with real quantities; under it are the axioms of Coq's library of real numbers. *)";
-    say "Definition with_real_quantities := (%s)." (String.concat ", " (List.rev !over));
-    say "Print Assumptions with_real_quantities."
-  end;
+  foot out !names !over;
+  Buffer.contents out
+
+(* ---- random choices ---- *)
+
+(* What a claim states of populations over every ordered field, and how it follows. *)
+let stated_of_choices = function
+  | SomePopulation ->
+      [ ("choices_rationalized", "rationalized_by_population K kinds offers shares", "it") ]
+  | NoPopulation v ->
+      [ ("choices_not_rationalizable", "not_rationalizable_by_any_population K kinds offers shares", "proj1 it");
+        ("greatest_share_is", sprintf "greatest_share K kinds offers shares %s" (fraction v), "proj2 it") ]
+  | NothingOnChoices -> []
+
+let choices_claim_text = function
+  | SomePopulation -> "SomePopulation"
+  | NoPopulation v -> sprintf "NoPopulation %s" (fraction v)
+  | NothingOnChoices -> "NothingOnChoices"
+
+let text_of bytes = literal (String.init (List.length bytes) (fun i -> Char.chr (Z.to_int (List.nth bytes i))))
+
+let write_choices ~names:(budgets_name, choices_name, certificate_name) ~texts:(budgets_text, choices_text, certificate_text)
+    goods offers records shares claims =
+  let out = Buffer.create 65536 in
+  let say form = say_to out form in
+  head out (sprintf "the choices %s from the budgets %s, from the certificate %s" (comment choices_name)
+      (comment budgets_name) (comment certificate_name)) "JudgeChoices Reals";
+  say "(* The bytes of the three files. *)";
+  say "Definition budgets_file : bytes := %s.\n" (literal budgets_text);
+  say "Definition choices_file : bytes := %s.\n" (literal choices_text);
+  say "Definition certificate_file : bytes := %s.\n" (literal certificate_text);
+  let rows name kind one l = say "Definition %s : list %s := [\n  %s]." name kind (String.concat ";\n  " (List.map one l)) in
+  say "(* The goods; prices and income of each budget, in scaled units; and of each record its budget, from 1, the bundle and";
+  say "   how many times it was chosen. *)";
+  say "Definition names : list bytes := %s." (listed text_of goods);
+  say "Definition kinds : nat := %d%%nat." (List.length goods);
+  rows "offers" "offer" (fun (p, w) -> sprintf "(%s, %s)" (numbers p) (number w)) offers;
+  rows "records" "made"
+    (fun r -> sprintf "Made %s %s %s" (number r.made_on) (numbers r.made_of) (number r.made_times)) records;
+  say "(* The patches in which something was chosen: the budget, from 0; on which side of each budget they lie; and their part";
+  say "   of what was chosen on their budget. *)";
+  rows "shares" "share"
+    (fun e -> sprintf "Share %d %s %s" e.on_budget (numbers e.on_sides) (fraction e.part)) shares;
+  say "Definition seen : observed_choices := ObservedChoices names offers records shares.\n";
+  say "Definition claims : list choices_claim := [%s].\n" (String.concat ";\n  " (List.map choices_claim_text claims));
+  say "Lemma judged : judge_choices budgets_file choices_file certificate_file = Some (seen, claims).";
+  say "Proof. vm_cast_no_check (eq_refl (Some (seen, claims))). Qed.\n";
+  say "(* Budgets and choices are what the bytes denote, and they denote no other; the shares are those of the choices. *)";
+  say "Theorem budgets_denoted : budgets_denote budgets_file names offers /\\";
+  say "  forall names' offers', budgets_denote budgets_file names' offers' -> names' = names /\\ offers' = offers.";
+  say "Proof. exact (proj1 (judge_choices_sound judged)). Qed.\n";
+  say "Theorem choices_denoted : choices_denote names %d choices_file records /\\" (List.length offers);
+  say "  forall other, choices_denote names %d choices_file other -> other = records." (List.length offers);
+  say "Proof. exact (proj1 (proj2 (judge_choices_sound judged))). Qed.\n";
+  say "Theorem choices_are_good : good_choices kinds offers records.";
+  say "Proof. exact (proj1 (proj2 (proj2 (judge_choices_sound judged)))). Qed.\n";
+  say "Theorem shares_observed : observed_shares offers records shares.";
+  say "Proof. exact (proj1 (proj2 (proj2 (proj2 (judge_choices_sound judged))))). Qed.\n";
+  say "(* What they say of populations whose goods are divided as any ordered field has it. *)";
+  let fresh = fresh_names () in
+  let names = ref [ "shares_observed"; "choices_are_good"; "choices_denoted"; "budgets_denoted" ] and over = ref [] in
+  List.iteri (fun k claim ->
+      List.iter (fun (name, statement, proof) ->
+          let name = fresh name in
+          names := name :: !names;
+          over := (name ^ " reals") :: !over;
+          say "Theorem %s : forall K, %s." name statement;
+          say "Proof. intros K. pose (it := judged_choice judged %d%%nat eq_refl K). exact (%s). Qed.\n" k proof)
+        (stated_of_choices claim))
+    claims;
+  foot out !names !over;
   Buffer.contents out

@@ -194,20 +194,17 @@ def of_clients(facts):
     names, faults = [it["name"] for it in facts["commands"]], [it["name"] for it in facts["faults"]]
     kinds = {it["name"]: it["columns"] for it in facts["kinds"]}
     shown = ["table", "budgets", "choices", "menus", "technology", "asked"]
-    keys = {it: rf"^  {it}:" for it in faults}
-    yield Place("page/reports.js", "faults", keys, all_of(r"^  ([A-Z]\w+):"), r"^export const FAULTS = \{.*?^\};", "UnheardOf")
+    # What is wrong and what to do, which the clients and the page take from there.
+    said_of = {("fault", it) for it in faults} | {("reason", it) for it in facts["reasons"]}
+    yield Place("docs/catalogue.json", "sentences", {f"{of} {it}": rf'"code": "{it}", "of": "{of}", "wrong": "[A-Z]' for of, it in sorted(said_of)})
     for name, own in facts["verdicts"].items():
         told = all_of(rf'"item": "{name}", "verdict": "(\w+)"')
         yield Place("docs/sentences.json", f"sentences on {name}", {it: rf'"item": "{name}", "verdict": "{it}"' for it in own},
                     lambda text, told=told: set(told(text)) - {"bounds"}, None, "unheard")  # fmt: skip
     yield Place("page/main.js", "columns", {f"{kind} {it}": rf"\b{quoted(it)}\b" for kind in shown for it in kinds[kind]})
-    yield Place("clients/python/revealed/advice.py", "faults", {it: rf'^    "{it}": ' for it in faults}, all_of(r'^    "(\w+)": '),
-                r"^HINTS = \{.*?^\}", "UnheardOf")  # fmt: skip
     yield Place("clients/python/revealed/__init__.py", "commands", {it: rf'^    "{it}",' for it in names if not it.startswith("check")} |
                 {"check": r"^    check,", "checkrandom": r"^    checkrandom,"})  # fmt: skip
     yield Place("clients/python/README.md", "commands", {it: rf"^\| `(?:\w+\(.*?\)` \| `)?{it}[`(]" for it in names})
-    yield Place("clients/r/revealed/R/catalogue.R", "faults", {it: rf"^    {it} = " for it in faults}, all_of(r"^    ([A-Z]\w+) = "),
-                r"^hints <- .*?^\}", "UnheardOf")  # fmt: skip
     yield Place("clients/r/revealed/NAMESPACE", "commands", {it: rf"\brp_{it}\b" for it in names})
     yield Place("clients/r/README.md", "commands", {it: rf"`rp_{it}[`(]" for it in names})
     yield Place("clients/stata/rptest.ado", "limits", said(facts, STATA_LIMITS))

@@ -200,6 +200,7 @@ def file_of(module, room, sum_, its_calls):
             f"static void init_memory(Instance *instance) {{\n{''.join(loads)}}}\n",
             text(f"{SOURCES}/shim.c"),
             *(call(*it) for it in its_calls),
+            f'const char *rp_version(void) {{ return "{version()}"; }}\n',
             "#endif",
             "",
         ]

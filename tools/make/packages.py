@@ -143,6 +143,8 @@ R_INSIDE = """/* The library inside the package: the one of onefile/. */
 rp_call *revealed_inside(int which) {
     return which == 2 ? rp_panel : which == 1 ? rp_answer_wide : rp_answer;
 }
+
+rp_version_call *revealed_inside_version(void) { return rp_version; }
 """
 
 

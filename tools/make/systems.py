@@ -283,6 +283,7 @@ def windows(room):
     objects = compiled("windows", ["heap.ll"], room)
     gcc = ["x86_64-w64-mingw32-gcc", "-O2", "-std=c11", "-Wall", "-Wextra", "-Werror", "-static", "-s", "-Wl,--gc-sections,--no-insert-timestamp"]
     sources = [f"{SOURCES}/{it}" for it in ("program.c", "windows.c")]
+    named = [f'-DRP_VERSION="{version()}"', f"{TOP}/library/version.c"]
     told = told_of("rp.exe", "revealed preference with proved verdicts", 1, room)
     ran([*gcc, *sources, *objects, told, "-lshell32", "-o", f"{room}/rp.exe"], room)
     others = [f"{it}.exe" for it in OTHER_NAMES]
@@ -291,7 +292,7 @@ def windows(room):
     exported = [f"{SOURCES}/rp.def", f"-Wl,--out-implib,{room}/librp.dll.a"]
     told = told_of("rp.dll", "the library of rp, revealed preference with proved verdicts", 2, room)
     # Else its base is drawn from the name of its file, with the folder.
-    ran([*gcc, "-shared", "-Wl,--disable-auto-image-base", *objects, told, *exported, "-o", f"{room}/rp.dll"], room)
+    ran([*gcc, "-shared", "-Wl,--disable-auto-image-base", *named, *objects, told, *exported, "-o", f"{room}/rp.dll"], room)
     return {it: f"{room}/{it}" for it in ("rp.exe", *others, "rp.dll", "librp.dll.a")} | {"rp.h": f"{TOP}/library/rp.h"}
 
 

@@ -35,7 +35,7 @@ function long = rp_long(t, key, options)
   numbers = arrayfun(@(it) sprintf('%d', it), 1:numel(goods), 'UniformOutput', false);
   long = struct('heads', {[strcat('p_', numbers), strcat('q_', numbers)]}, 'names', {[keys(1), sides{:}]});
   if ismember('e', rest)
-    texts{end + 1} = rp_texts(rp_columns(t, {'e'}), 'levels', []);
+    texts{end + 1} = rp_texts(rp_thousandths(rp_columns(t, {'e'})), 'levels', []);
     [long.heads{end + 1}, long.names{end + 1}] = deal('e');
   end
   long.cells = horzcat(texts{:});

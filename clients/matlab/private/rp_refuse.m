@@ -12,7 +12,11 @@ function rp_refuse(told, files)
     error('rp:Failed', 'the library refused the data, and said: %s', told);
   end
   where = rp_place(name, said, files);
-  error(['rp:Refused:', fault], '%s%s%s', said, where, rp_hint(fault));
+  meant = fault;
+  if strcmp(fault, 'BadNumber') && ~isempty(strfind(where, ', column e, '))
+    meant = 'BadLevel';
+  end
+  error(['rp:Refused:', fault], '%s%s%s', said, where, rp_hint(meant));
 end
 
 function where = rp_place(name, said, files)

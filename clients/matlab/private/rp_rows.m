@@ -60,14 +60,14 @@ function rows = rp_answered(text, ids, is_named, words)
   names = rp_panel_columns();
   width = numel(names);
   if isempty(fields) || ~isequal(find(ends(:)'), width:width:numel(fields)) || ~isequal(fields(1:width), names)
-    error('rp:Unreadable', 'the library gave no table of households: %s', text(1:min(end, 200)));
+    error('rp:Unreadable', 'the library gave no table of units: %s', text(1:min(end, 200)));
   end
   rows = reshape(fields(width + 1:end), width, [])';
   wanted = cellfun(@(it) char(rp_bytes(it)), ids(:), 'UniformOutput', false);
   wanted(~is_named) = {''};
   is_fault = ~cellfun('isempty', rows(:, 13));
   if ~isequal(rows(:, 1), wanted) || ~all(ismember(rows(~is_named, 13), {'NoId', 'LongId'}))
-    error('rp:Unreadable', 'the library gave a table of other households');
+    error('rp:Unreadable', 'the library gave a table of other units');
   end
   patterns = rp_patterns(words);
   for row = 1:size(rows, 1)

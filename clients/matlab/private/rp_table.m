@@ -15,9 +15,13 @@ function [file, told] = rp_table(p, q, options)
   columns = {rp_texts(p, 'prices', rp_how(options, 1)), rp_texts(q, 'quantities', rp_how(options, 2))};
   if isfield(options, 'Levels') && ~isempty(options.Levels)
     levels = options.Levels;
-    if numel(levels) ~= size(p, 1)
-      error('rp:BadData', '''Levels'' has a number for each of the %d observations, in thousandths', size(p, 1));
+    if isnumeric(levels) && isscalar(levels)
+      levels = repmat(levels, size(p, 1), 1);
     end
+    if numel(levels) ~= size(p, 1)
+      error('rp:BadData', '''Levels'' has one number, or one for each of the %d observations: shares such as 0.95, or thousandths such as 950', size(p, 1));
+    end
+    levels = rp_thousandths(levels);
     heads{end + 1} = 'e';
     columns{end + 1} = rp_texts(levels(:), 'levels', []);
   end

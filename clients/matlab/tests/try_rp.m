@@ -74,7 +74,7 @@ same({r.rational, r.share, r.types, r.parts, r.weights}, {false, '3/4', [1 4; 2 
 same(r.wide, false, 'random choices that rp takes');
 for own = {8, 'TooManyTypes'; 11, 'TooManyCombinations'; 13, 'TooManyPatches'}'
   [p, w, budget, q, n] = pairs(own{1}, [1 3 2 2]);
-  refused(@() rp_random(p, w, budget, q, n, 'Wide', false), ['rp:Refused:', own{2}], 'wider edition');
+  refused(@() rp_random(p, w, budget, q, n, 'Wide', false), ['rp:Refused:', own{2}], 'rp-wide');
   r = rp_random(p, w, budget, q, n);
   same({r.rational, r.share, r.wide, abs(sum(r.parts) - 0.75) < 1e-12}, {false, '3/4', true, true}, 'choices that rp refuses');
   [p, w, budget, q, n] = pairs(own{1}, [3 1 3 1]);
@@ -115,6 +115,15 @@ refused(@() rp_demand([1 1], [1 1], [1 0], 3), 'rp:Refused:ZeroPrice', 'new.csv'
 refused(@() rp_analyse({'1,5', '1'}, {'1', '1'}), 'rp:Refused:BadNumber', 'record 1 column 1 (row 1 of table.csv, column p_1, value 1,5)');
 refused(@() rp_analyse({'1', '1'}, {sprintf('1\n9'), '1'}), 'rp:Refused:BadNumber', 'record 1 column 3');
 
+% Levels are shares or thousandths, one for all or one for each: the other bundle costs 4 of the 5 that are spent.
+P = [1 2; 2 1];
+same({rp_analyse(P, P, 'Levels', 0.95).garp, rp_analyse(P, P, 'Levels', 0.79).garp}, {false, true}, 'one share for all');
+same({rp_analyse(P, P, 'Levels', [0.799; 1]).garp, rp_analyse(P, P, 'Levels', [799; 1000]).garp}, {true, true}, 'shares and thousandths');
+refused(@() rp_analyse(P, P, 'Levels', [0.95 0.9512]), 'rp:Refused:BadNumber', 'thousandths');
+refused(@() rp_analyse(P, P, 'Levels', [1 1 1]), 'rp:BadData', 'shares such as 0.95');
+% What to do about an error is said by the catalogue.
+refused(@() rp_analyse([0 1], [1 1]), 'rp:Refused:ZeroPrice', 'every price must be positive');
+
 % A panel.
 t = struct('home', {{'u'; 'u'; 'v'; 'v'; 'z'}}, 'p_a', [1; 2; 1; 2; 0], 'p_b', [2; 1; 2; 1; 1], 'q_a', [1; 2; 2; 1; 1], 'q_b', [2; 1; 1; 2; 1]);
 r = rp_panel(t, 'home', 'Pump', true, 'Power', 200, 'Seed', 7);
@@ -149,6 +158,8 @@ same({r.fault}, {'Pooled', '', 'NoId', 'NoId', 'LongId'}, 'a label that stands t
 % Levels of the observations, numbers that are none, and households that all have one fault.
 t = struct('home', [3; 3], 'p_a', [1; 2], 'p_b', [2; 1], 'q_a', [1; 2], 'q_b', [2; 1], 'e', [799; 1000]);
 same({rp_panel(t, 'home').garp, rp_panel(t, 'home').home}, {true, 3}, 'own levels in a panel');
+t.e = [0.799; 1];
+same(rp_panel(t, 'home').garp, true, 'levels of a panel as shares');
 refused(@() rp_panel(t, 'home', 'Pump', true), 'rp:Refused:All', 'OwnLevels');
 t = rmfield(t, 'e');
 t.p_a = {'1,5'; sprintf('1\n3,1,1,1,1')};

@@ -13,6 +13,7 @@ is, and what would have to be rounded is refused.
 
 from . import draws, plain
 from .answers import Answers, Certificate, Checked, Demand, Part, Patch, RandomVerdict, Verdict, Welfare
+from .bounds_panel import BoundsPanel, UnitBounds, panel_demand, panel_welfare
 from .clusters import panel_task
 from .commands import (
     afriat_utility,
@@ -54,6 +55,7 @@ __all__ = [
     "AllRefused",
     "Answers",
     "BadData",
+    "BoundsPanel",
     "Certificate",
     "Checked",
     "Choices",
@@ -86,6 +88,7 @@ __all__ = [
     "Table",
     "Technology",
     "Trial",
+    "UnitBounds",
     "Unreadable",
     "Verdict",
     "Welfare",
@@ -108,7 +111,9 @@ __all__ = [
     "money_pump",
     "pairs",
     "panel",
+    "panel_demand",
     "panel_task",
+    "panel_welfare",
     "patches",
     "plain",
     "power",

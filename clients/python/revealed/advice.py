@@ -8,57 +8,35 @@ from math import isfinite
 from typing import Any, Callable, Sequence
 
 from . import exact
-from .catalogue import LIMITS
+from .catalogue import LIMITS, sentence
 
 LARGEST = LIMITS["table.largest"]
 LARGEST_MONEY = LIMITS["table.largest_expenditure"]
 # What is scaled by one power of ten, by the name that a column has in a sheet.
 PRICES, QUANTITIES, LEVELS, MONEY, WHOLE = "prices", "quantities", "levels", "money", "whole numbers"
-LEVEL_HINT = f"levels are shares of what was spent, as 0.95, or whole thousandths of it from 1 to {LIMITS['table.level_scale']}, as 950"
-NAME_HINT = f"a name has 1 to {LIMITS['table.name_bytes']} bytes, none of them a control character, and stands once"
-FEWER = "ask about fewer budgets"
-WIDER = "rp lists no more, and rp-wide takes them: leave wide=False out, and have it beside the program, in the library, or named by RP_WIDE"
-# What to do about each fault of the catalogue where nothing more is known: one for each, and no other (tests/test_catalogue.py).
-HINTS = {
-    "Empty": "there is no line at all: see why nothing was written",
-    "Ragged": "each record has as many fields as there are names of columns",
-    "BadHeader": NAME_HINT,
-    "TwiceNamed": NAME_HINT,
-    "Unpaired": "a column is missing, or a price stands without its quantity: add it, or leave the good out",
-    "TooManyGoods": f"there are more than {LIMITS['table.goods']} goods: put goods together, or leave some out",
-    "NoRecords": "there are no rows",
-    "TooManyRecords": f"a table has at most {LIMITS['table.records']} rows; many households are a panel: panel(d, by=..)",
-    "BadNumber": "a number has digits, and possibly a point with digits on both sides",
-    "TooManyDecimals": f"at most {LIMITS['table.places']} places are taken",
-    "ZeroPrice": "prices are above 0",
-    "ZeroBundle": "in each row something is bought, and what is spent is above 0",
-    "TooLarge": f"made whole, a number is at most {LARGEST:,}, and an amount of money {LARGEST_MONEY:,}",
-    "OtherGoods": "the goods are those of the table, or of the budgets",
-    "TooFine": "it has more places than the table's quantities have: round it to as many, or multiply the new prices and the money by 10",
-    "UnknownBudget": "budgets are numbered from 1 in their order",
-    "NoChoices": "nothing was chosen on this budget: leave the budget out, or add its choices",
-    "BadLevel": LEVEL_HINT,
-    "BadMenu": f"a menu is one to {LIMITS['menu.letters']} of the letters from a on, each after the one before it, without blanks",
-    "BadChoice": "the letter that was chosen is one of its menu",
-    "NoMenus": "every n is 0, so nothing was chosen",
-    "TooManyCells": f"there are more than {LIMITS['menu.cells']} pairs of a menu and a choice: ask about fewer menus",
-    "NotJson": "a certificate is JSON in UTF-8",
-    "BadVersion": "a certificate has the version 1, or with levels 2",
-    "BadShape": "the item is none of its kind, or has a number that no item has; item 0 is the certificate as a whole",
-    "TooLong": f"a file has at most {LIMITS['run.bytes']:,} bytes, and a certificate {LIMITS['run.certificate_bytes']:,}",
-    "OwnLevels": "this is defined on a table without levels: leave the column 'e', or the argument levels, out",
-    "TooManyPatches": f"rp takes {LIMITS['patch.patches']} patches, and rp-wide {LIMITS['generated.patches']}: {FEWER}",
-    "NeedUnit": f"the counts have no common multiple up to {LIMITS['patch.units']:,}: per=1000 takes the shares in thousandths, rounded",
-    "TooManyCombinations": f"a patch of each budget can be taken in more than {LIMITS['types.combinations']:,} ways: {WIDER}",
-    "TooManyTypes": f"there are more than {LIMITS['types.types']:,} rational types: {WIDER}",
+LEVEL_HINT = f"A level is a share of what was spent, such as 0.95, or an integer of thousandths from 1 to {LIMITS['table.level_scale']}, such as 950."
+# What an argument of this package does about a fault, behind the sentence of the catalogue.
+ALSO = {
+    "TooManyRecords": "If the rows are those of many units, they are a panel: panel(d, by=..).",
+    "OwnLevels": "The argument levels gives them too.",
+    "TooManyCombinations": "Leave wide=False out, and have rp-wide beside the program, in the library, or named by RP_WIDE.",
+    "TooManyTypes": "Leave wide=False out, and have rp-wide beside the program, in the library, or named by RP_WIDE.",
 }
-# And about those of a panel, beside these.
-PANEL_HINTS = {
-    "NoId": "a record without a household is none's: give it the name of its household, or leave it out",
-    "LongId": f"the name of a household has at most {LIMITS['long.household_bytes']} bytes",
-    "OwnLevels": "the money pump and the power are defined on tables without levels: leave pump and power out, or the levels",
-    "TooManyRecords": f"one household has at most {LIMITS['table.records']} observations: test parts of its observations apart, such as years",
+# What is said of a fault of a panel in place of that.
+OF_PANEL = {
+    "TooManyRecords": f"One unit has at most {LIMITS['table.records']} observations. Test parts of its observations, such as years.",
+    "OwnLevels": "The money pump and the power are defined without efficiency levels. Leave out pump and power, or the levels.",
 }
+
+
+def hint_of(fault: str, in_panel: bool = False) -> str | None:
+    """Returns what is wrong and what to do, where nothing more is known than the fault."""
+    if in_panel and fault in OF_PANEL:
+        return OF_PANEL[fault]
+    if fault == "BadLevel":
+        return LEVEL_HINT
+    found = sentence("fault", fault)
+    return f"{found} {ALSO[fault]}" if found is not None and fault in ALSO else found
 
 
 def largest_of(values: Sequence[Any]) -> Fraction:
@@ -142,10 +120,10 @@ def too_many_places(kind: str, kinds: Kinds, may_be_a_line: bool) -> str:
     """Returns what to do about a number of too many places, in at most four lines; `may_be_a_line` says that it is a price of two goods
     and not given by intercepts already."""
     if kind not in (PRICES, QUANTITIES):
-        return f"it needs more than {exact.MOST_PLACES} decimal places. Give it as a text or a Decimal of at most {exact.MOST_PLACES} decimal places."
+        return f"It needs more than {exact.MOST_PLACES} decimal places. Give it as a text or a Decimal of at most {exact.MOST_PLACES} decimal places."
     others = kinds.too_fine(PRICES) + kinds.too_fine(QUANTITIES) - 1
     more = f", as do {others:,} other numbers" if others > 1 else ", as does 1 other number" if others == 1 else ""
-    lines = [f"it needs {NEEDS}{more}."]
+    lines = [f"It needs {NEEDS}{more}."]
     if may_be_a_line:
         lines.append(INTERCEPTS)
     if not kinds.shortest and kinds.shortest_fits():
@@ -163,22 +141,22 @@ def without_places(kind: str) -> str:
     unit = (
         "a smaller unit of the good (its price less, its quantity more)" if kind == PRICES else "a larger unit of the good (its quantity less, its price more)"
     )
-    return f"above {LARGEST:,} a number is not taken: take {unit}, which changes no verdict"
+    return f"A number above {LARGEST:,} is not taken: take {unit}, which changes no verdict."
 
 
-def too_large(value: Any, kind: str, kinds: Kinds) -> str:
+def too_large(kind: str, kinds: Kinds) -> str:
     """Returns the limit that a number is above, and the way out."""
     if kind == MONEY:
-        return f"made whole by its places, and those of quantities, an amount of money is at most {LARGEST_MONEY:,}"
+        return f"In units of the last decimal place, and of that of quantities, an amount of money is at most {LARGEST_MONEY:,}."
     if kind not in (PRICES, QUANTITIES):
-        return f"it is at most {LARGEST:,}"
+        return f"It is at most {LARGEST:,}."
     most = kinds.most(kind)
-    limit = f"all {kind} are made whole by one power of ten, and none may be above {LARGEST:,} then"
+    limit = f"In units of the last decimal place that any of the {kind} has, a number is at most {LARGEST:,}."
     if most is None:
-        return f"{limit}; {without_places(kind)}"
+        return f"{limit} {without_places(kind)}"
     other = QUANTITIES if kind == PRICES else PRICES
     argument = f"decimals=({most}, None)" if kind == PRICES else f"decimals=(None, {most})"
     if kinds.too_fine(other):
         argument = asked_for(kinds, kind) or argument
-    changes = "; rounded prices can change a verdict" if kind == PRICES else ""
-    return f"{limit}: with the largest of them {most} decimal places fit, and {argument} rounds to so many{changes}"
+    changes = " Rounded prices can change a verdict." if kind == PRICES else ""
+    return f"{limit} {argument} rounds to the most decimal places that fit.{changes}"

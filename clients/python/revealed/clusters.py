@@ -21,8 +21,8 @@ def is_dask(d: Any) -> bool:
 
 
 def records_of(frame: Any, by: Any, more: dict[str, Any]) -> Any:
-    """Returns the records of the households of a frame of pandas, as `Panel.frame()` has them, by this thread alone. Of
-    a part of a frame nobody knows which rows the others have, so the record of a fault counts the household's own rows."""
+    """Returns the records of the units of a frame of pandas, as `Panel.frame()` has them, by this thread alone. Of
+    a part of a frame nobody knows which rows the others have, so the record of a fault counts the unit's own rows."""
     from .panels import answers
 
     found = answers(frame, list(by) if isinstance(by, (list, tuple)) else [by], 1, False, **more)
@@ -32,15 +32,15 @@ def records_of(frame: Any, by: Any, more: dict[str, Any]) -> Any:
 
 
 def panel_task(by: Any, *, order: Any = None, key: str = "string", **more: Any) -> Callable[[Any], Any]:
-    """Returns a function that answers a frame of whole households with the frame of their records, for `applyInPandas` of Spark.
+    """Returns a function that answers a frame of whole units with the frame of their records, for `applyInPandas` of Spark.
 
     `task = panel_task("household", order="obs", pump=True)`, and then `d.groupBy("household").applyInPandas(task, task.schema)`.
-    The groups of Spark have no order of their own: `order` names the column (or columns) by which the rows of a household are
+    The groups of Spark have no order of their own: `order` names the column (or columns) by which the rows of a unit are
     sorted. `key` is the type of the column `by` in Spark's words; the rest are the words of `panel`. Whatever is missing in the
     frame is None or NaN, and its columns are plain ones.
     """
     if order is None:
-        raise BadData("order: the column by which the rows of a household are sorted, since groups have no order of their own")
+        raise BadData("order: the column by which the rows of a unit are sorted, since groups have no order of their own")
 
     def task(frame: Any) -> Any:
         records = records_of(frame.sort_values(order, kind="stable"), by, more)
@@ -62,7 +62,7 @@ def panel_task(by: Any, *, order: Any = None, key: str = "string", **more: Any) 
 
 
 def of_dask(d: Any, names: Sequence[Any], more: dict[str, Any]) -> Any:
-    """Returns the records of a frame of Dask, as one of Dask: its rows are moved so that each household is in one partition."""
+    """Returns the records of a frame of Dask, as one of Dask: its rows are moved so that each unit is in one partition."""
     import numpy
     import pandas
 
@@ -86,11 +86,11 @@ def _placed(part: Any, partition_info: Any = None) -> Any:
 
 
 def _answered(part: Any, names: list[Any], more: dict[str, Any]) -> Any:
-    """Returns the records of the households of a partition, under the place of each one's first row."""
+    """Returns the records of the units of a partition, under the place of each one's first row."""
     part = part.sort_values(PLACE)
     keys = part[names].astype(object).where(part[names].notna(), None)
     if "obs" not in part.columns and keys.assign(**{PLACE: part.index.to_numpy()}).duplicated().any():
-        # The indices of several partitions say the same: the rows of each household are called by their numbers.
+        # The indices of several partitions say the same: the rows of each unit are called by their numbers.
         part = part.set_axis(keys.groupby(names, dropna=False).cumcount() + 1)
     firsts = part[PLACE].to_numpy()[~keys.duplicated().to_numpy()]
     return records_of(part.drop(columns=PLACE), names, more).set_axis(firsts)

@@ -1,4 +1,4 @@
-"""A function for each command of the program, by the field's words, with the command's own name as another name of it."""
+"""A function for each command of the program, under its name. README.md lists the other names of these calls."""
 
 from __future__ import annotations
 
@@ -43,7 +43,7 @@ def certify(p: Any, q: Any = None, *, levels: Any = None, decimals: Any = None, 
 
 
 @takes_places
-def first_contradiction(
+def pairs(
     p: Any, q: Any = None, *, levels: Any = None, decimals: Any = None, numbers: Any = "shortest", exe: Any = None
 ) -> tuple[Any, Any] | None:
     """Returns the labels of the first two rows that contradict each other, the one weakly preferred to the other and that strictly
@@ -59,7 +59,7 @@ def first_contradiction(
 
 
 @takes_places
-def money_pump(p: Any, q: Any = None, *, levels: Any = None, decimals: Any = None, numbers: Any = "shortest", exe: Any = None) -> MoneyPump:
+def pump(p: Any, q: Any = None, *, levels: Any = None, decimals: Any = None, numbers: Any = "shortest", exe: Any = None) -> MoneyPump:
     """Returns the greatest money pump ratio of a table, with a cycle that has it. It is refused on a table with levels, and on
     one of intercepts exchanged, whose rows have money of their own."""
     own = table(p, q, decimals=decimals, numbers=numbers, levels=levels)
@@ -69,7 +69,7 @@ def money_pump(p: Any, q: Any = None, *, levels: Any = None, decimals: Any = Non
 
 
 @takes_places
-def power_of_test(
+def power(
     p: Any, q: Any = None, *, seed: Any = 1, draws: Any = 1000, levels: Any = None, decimals: Any = None, numbers: Any = "shortest", exe: Any = None
 ) -> Power:
     """Returns how many of so many random behaviours on the budgets of a table, 1 to 1,000, violate the axiom.
@@ -83,7 +83,7 @@ def power_of_test(
     return Power(own, out.encode(), seed, draws)
 
 
-def random_trial(seed: Any, rows: Any, goods: Any, *, exe: Any = None, wide: bool = True) -> Trial:
+def trial(seed: Any, rows: Any, goods: Any, *, exe: Any = None, wide: bool = True) -> Trial:
     """Returns the verdicts on a table of pseudorandom numbers: 1 to 256 rows of 1 to 16 goods."""
     numbers = (("seed", seed, "SEED"), ("rows", rows, "ROWS"), ("goods", goods, "GOODS"))
     words = [program.whole(value, name, *span("trial", word)) for name, value, word in numbers]
@@ -95,7 +95,7 @@ def random_trial(seed: Any, rows: Any, goods: Any, *, exe: Any = None, wide: boo
 
 
 @takes_places
-def demand_bounds(
+def demand(
     p: Any,
     q: Any = None,
     new: Any = None,
@@ -117,7 +117,7 @@ def demand_bounds(
 
 
 @takes_places
-def welfare_bounds(
+def welfare(
     p: Any, q: Any = None, new: Any = None, *, levels: Any = None, decimals: Any = None, numbers: Any = "shortest", exe: Any = None, wide: bool = True
 ) -> Answers:
     """Returns the Welfare bounds at each row of new prices. It is refused on a table with levels."""
@@ -127,7 +127,7 @@ def welfare_bounds(
 
 
 @takes_places
-def afriat_utility(
+def utility(
     p: Any, q: Any = None, bundles: Any = None, *, levels: Any = None, decimals: Any = None, numbers: Any = "shortest", exe: Any = None
 ) -> Answers:
     """Returns the utility of each bundle under the Verdict's Afriat numbers, in their scale: money where lambda is 1."""
@@ -140,7 +140,7 @@ def afriat_utility(
 
 
 @takes_places
-def cost_minimisation(
+def cost(
     technology: Any, asked: Any = None, *, decimals: Any = None, numbers: Any = "shortest", exe: Any = None, wide: bool = True
 ) -> CostMinimisation:
     """Returns whether a firm minimises its cost and maximises its profit, and what outputs cost at new prices of the inputs.
@@ -158,7 +158,7 @@ def cost_minimisation(
 
 
 @takes_places
-def random_utility(
+def random(
     budgets: Any, choices: Any, per: Any = None, *, decimals: Any = None, numbers: Any = "shortest", exe: Any = None, wide: bool = True
 ) -> RandomVerdict:
     """Returns the RandomVerdict on choices from budgets.
@@ -176,11 +176,11 @@ def random_utility(
 
 
 @takes_places
-def choice_patches(
+def patches(
     budgets: Any, choices: Any, per: Any = None, *, decimals: Any = None, numbers: Any = "shortest", exe: Any = None, wide: bool = True
 ) -> list[Patch]:
     """Returns the patches that choices from budgets fall in: of each its budget, its share of that budget's choices, and the side of
-    every budget on which it lies. Budgets, choices, `per` and `wide` are those of `random_utility`, and the patches have its numbers."""
+    every budget on which it lies. Budgets, choices, `per` and `wide` are those of `random`, and the patches have its numbers."""
     own = Choices(budgets, choices, per, forms_of(decimals, numbers))
     out, _ = _of_choices(["patches", BUDGETS, CHOICES, *_units(own.per)], own, exe, wide)
     return patches_of(own, out)
@@ -193,7 +193,7 @@ def _of_choices(words: list[str], own: Choices, exe: Any, wide: bool) -> tuple[s
     return program.output(ran, _explains_choices(own)), is_wide
 
 
-def menu_choices(choices: Any, per: Any = None, *, exe: Any = None) -> MenuVerdict:
+def menus(choices: Any, per: Any = None, *, exe: Any = None) -> MenuVerdict:
     """Returns the MenuVerdict on choices from menus: a frame with `menu`, `choice` and `n`, or rows of these.
 
     A menu is a text of one to six of the letters a to f, each after the one before it; the choice is one of them, and `n` how
@@ -232,8 +232,8 @@ def check(data: Any, certificate: Any, *, per: Any = None, exe: Any = None, wide
 def verify(data: Any, certificate: Any = None, *, per: Any = None) -> Findings:
     """Returns the Findings of the second checker, which is plain Python and does not call the program. See `check`.
 
-    It also looks at the reports of `pump`, `menus` and `cost`, as text, as bytes or as what `money_pump`, `menu_choices` and
-    `cost_minimisation` gave; data on a firm are a tuple of the technology and what was asked. An answer alone is looked at on its
+    It also looks at the reports of `pump`, `menus` and `cost`, as text, as bytes or as what `pump`, `menus` and
+    `cost` gave; data on a firm are a tuple of the technology and what was asked. An answer alone is looked at on its
     own data.
     """
     files, per, _ = _files(data, per)
@@ -312,7 +312,7 @@ def _explains(*sheets: Sheet) -> Explains:
 def refusal(fault: str, file: str | None, places: dict[str, int], label: Any = None) -> Refused:
     """Returns a refusal at these places."""
     record, column, budget, menu, item = map(places.get, ("record", "column", "budget", "menu", "item"))
-    return Refused(fault, file, record, column, budget, menu, item, label=label, hint=advice.HINTS.get(fault))
+    return Refused(fault, file, record, column, budget, menu, item, label=label, hint=advice.hint_of(fault))
 
 
 def _explains_choices(own: Choices) -> Explains:
@@ -416,6 +416,7 @@ def _read(path: Any) -> bytes:
         raise NoFile(f"there is no file {path!r} that can be read: {wrong}") from wrong
 
 
-pairs, pump, power, trial = first_contradiction, money_pump, power_of_test, random_trial
-demand, welfare, utility = demand_bounds, welfare_bounds, afriat_utility
-cost, random, patches, menus, checkrandom = cost_minimisation, random_utility, choice_patches, menu_choices, check
+# Other names of the same calls.
+first_contradiction, money_pump, power_of_test, random_trial = pairs, pump, power, trial
+demand_bounds, welfare_bounds, afriat_utility = demand, welfare, utility
+cost_minimisation, random_utility, choice_patches, menu_choices, checkrandom = cost, random, patches, menus, check

@@ -92,10 +92,10 @@ def on_budget_lines(table: Table, seed: Any) -> Table:
 
 
 def on_budgets_of(panel: Any, count: int = 1000, seed: Any = 1) -> list[Table]:
-    """Returns so many behaviours on the budgets of a panel: each household that has verdicts in turn, all from one seed."""
+    """Returns so many behaviours on the budgets of a panel: each unit that has verdicts in turn, all from one seed."""
     own = [Budgets(row.table) for row in panel if row.fault is None]
     if not own:
-        raise BadData("no household of this panel has a verdict, so there are no budgets")
+        raise BadData("no unit of this panel has a verdict, so there are no budgets")
     words = Words(seed)
     return [own[number % len(own)].drawn(words) for number in range(program.whole(count, "count", 0, 1_000_000))]
 

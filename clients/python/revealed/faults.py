@@ -26,14 +26,14 @@ class WrongColumns(BadData):
 
 
 class Pooled(BadData):
-    """Two rows have one label, as where several households stand in one frame: `label` is the first that comes again."""
+    """Two rows have one label, as where several units stand in one frame: `label` is the first that comes again."""
 
     def __init__(self, label: Any, name: str = "obs", why: str | None = None) -> None:
         self.label, self.name = label, name
         super().__init__(
-            (why or f"the label {shown(label, repr)} of {name} stands at more than one row")
-            + ", so these look like several households, and together they are no table: panel(d, by=..) takes each household apart by"
-            " the column that tells them apart; if they are one household, give each row a label of its own"
+            (why or f"more than one row has the label {shown(label, repr)} of {name}")
+            + ", so these look like several units, such as subjects. panel(d, by=..) takes each unit apart by the column that tells units apart."
+            " If the rows are those of one unit, give each row a label of its own."
         )
 
 
@@ -113,18 +113,22 @@ class Refused(Problem, ValueError):
             told.append(f"column {self.name!r}")
         if self.value is not None:
             told.append(f"value {self.value}")
-        said = [", ".join(told), self.hint or ("refused" if told else "the data are refused")]
+        said = [", ".join(told), self.hint or ("an error" if told else "the data have an error")]
         return f"{': '.join(filter(None, said))} [{' '.join(words)}]"
 
 
 class AllRefused(Refused):
-    """Every household of a panel was refused for one cause: `count` of them, of which the places tell the first, `key`."""
+    """Every unit of a panel was refused for one cause: `count` of them, which are called `units`, of which the places tell the first, `key`."""
 
-    def __init__(self, first: Refused, key: Any, count: int) -> None:
-        self.key, self.count = key, count
+    def __init__(self, first: Refused, key: Any, count: int, units: str = "units") -> None:
+        self.key, self.count, self.units = key, count, units
         places = {name: getattr(first, name) for name in ("record", "column", "budget", "menu", "item")}
         super().__init__(first.fault, first.file, label=first.label, name=first.name, value=first.value, hint=first.hint, **places)
 
     def _text(self) -> str:
-        who = f"all {self.count:,} households are refused for one cause, the first" if self.count > 1 else "the one household is refused"
-        return f"{who}, {shown(self.key, repr)}: {super()._text()}"
+        return f"{all_of(self.count, self.units)}, {shown(self.key, repr)}: {super()._text()}"
+
+
+def all_of(count: int, units: str) -> str:
+    """Returns the words before the first of some units that all have one error."""
+    return f"all {count:,} {units} have one error, the first" if count > 1 else f"the panel has one unit ({units}), with an error"

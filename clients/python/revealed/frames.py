@@ -9,11 +9,9 @@ from collections.abc import Mapping
 from typing import Any, Iterable, Sequence
 
 from . import exact
+from .catalogue import ID_COLUMNS
 from .faults import BadData, Pooled, Refused, WrongColumns
 
-# Names of a column that tells households apart. A frame that has one, with values that come again, is a panel.
-HOUSEHOLDS = {"household", "household_id", "householdid", "hh", "hhid", "hh_id", "subject", "subject_id", "subjectid", "participant", "participant_id"}
-HOUSEHOLDS |= {"respondent", "respondent_id", "consumer", "consumer_id", "person", "person_id", "individual", "id", "pid", "uid"}
 OTHER_NAMES = re.compile(r"([pqxw])[ ._-]?(\d+)", re.I)
 
 
@@ -98,9 +96,9 @@ def numbered(labels: Iterable[Any]) -> list[Any]:
 
 
 def own_labels(labels: Iterable[Any], name: str) -> list[Any]:
-    """Returns the labels of one household, each of which stands once; numbers from 1 where a row has none.
+    """Returns the labels of one unit, each of which stands once; numbers from 1 where a row has none.
 
-    A label that comes again says that the rows are of several households, which are no table together.
+    A label that comes again says that the rows are of several units, which are no table together.
     """
     labels = list(labels)
     try:
@@ -116,9 +114,9 @@ def own_labels(labels: Iterable[Any], name: str) -> list[Any]:
 
 
 def no_panel(frame: Frame, goods: Iterable[Any]) -> None:
-    """Refuses a frame with a column of households, by its name and because its values come again."""
+    """Refuses a frame with a column of ids, by its name and because its values come again."""
     for name in frame.names:
-        if isinstance(name, str) and name.strip().lower() in HOUSEHOLDS and name not in goods:
+        if isinstance(name, str) and name.strip().lower() in ID_COLUMNS and name not in goods:
             values = [repr(value) for value in frame.columns[name]]
             if 1 < len(set(values)) < len(values):
                 why = f"the column {name!r} has {len(set(values))} values for {len(values)} rows"

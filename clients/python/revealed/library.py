@@ -12,6 +12,7 @@ import ctypes
 import os
 import sys
 import threading
+import warnings
 from typing import Any, Mapping, Sequence
 
 from .faults import NoProgram
@@ -41,6 +42,11 @@ class Library:
         # Libraries up to 0.13.0 have not the wider call, and those up to 0.14.0 not that of panels.
         self.wider: Any = getattr(loaded, "rp_answer_wide", None)
         self.panels: Any = getattr(loaded, "rp_panel", None)
+        # Libraries up to 0.17.0 do not have this call.
+        version: Any = getattr(loaded, "rp_version", None)
+        if version is not None:
+            version.argtypes, version.restype = [], ctypes.c_char_p
+        self.version: str | None = None if version is None else version().decode("ascii", "replace")
         text, size, number = ctypes.c_char_p, ctypes.c_size_t, ctypes.POINTER(ctypes.c_uint64)
         room = ctypes.POINTER(ctypes.c_char)
         for call in filter(None, (self.answer, self.wider, self.panels)):
@@ -79,6 +85,10 @@ class Library:
             rooms = [ctypes.create_string_buffer(max(len(room), length.value)) for length, room in zip(lengths, rooms)]
 
 
+class OtherVersion(UserWarning):
+    """A library is of another version than this package."""
+
+
 KNOWN: dict[str, Library] = {}
 LOCK = threading.Lock()
 
@@ -88,7 +98,17 @@ def known(path: str) -> Library:
     with LOCK:
         if path not in KNOWN:
             KNOWN[path] = Library(path)
+            warn_of_version(KNOWN[path])
         return KNOWN[path]
+
+
+def warn_of_version(of: Library) -> None:
+    """Warns of a library of another version than this package."""
+    from . import __version__
+
+    if of.version not in (None, __version__):
+        said = f"the library {of.path} is of version {of.version}, and the package revealed of version {__version__}: take both of one release"
+        warnings.warn(said, OtherVersion, stacklevel=4)
 
 
 def is_library(named: Any) -> bool:

@@ -11,7 +11,7 @@ import threading
 from typing import Any, Iterator, Mapping, NamedTuple, Optional, Sequence
 
 from . import library, program, wider
-from .advice import HINTS
+from .advice import hint_of
 from .faults import Unreadable
 from .long_call import COLUMNS, FAULT, LONG, RECORD, Asked, answered, line_of, rows_of
 from .long_ends import ENDS
@@ -180,7 +180,7 @@ class Program:
             return f"{fault}: no column {self.asked.id}; its columns are {', '.join(names)}: name that of the households by --id NAME"
         if fault == "NoKeptColumn":
             return f"{fault}: no column {self.asked.kept[places['name'] - 1]}; its columns are {', '.join(names)}"
-        return f"{fault}{at}: {HINTS.get(fault, 'see docs/reference/errors.md')}"
+        return f"{fault}{at}: {hint_of(fault) or 'see docs/reference/errors.md'}"
 
     def answer(self, block: Block, header: str, known: Optional[bytes]) -> Optional[Answer]:
         """Returns the answer to a block; None where what was asked has the checksum that is known, so that its rows stand."""

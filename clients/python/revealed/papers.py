@@ -3,21 +3,16 @@
 from __future__ import annotations
 
 from fractions import Fraction
-from math import floor, fsum
+from math import floor
 from statistics import stdev
 from typing import Any, Callable, Iterable, Sequence
 
 from . import exact
+from .catalogue import THRESHOLDS
 from .faults import BadData
 from .long_call import OF_ID
+from .program import whole
 from .tables import OWN_MONEY
-
-# The thresholds of the index that a table has where no others are asked for.
-THRESHOLDS = ("0.99", "0.95", "0.90", "0.80")
-# What units are called, by the name of the column that tells them apart.
-UNITS = {"household": "households", "hh": "households", "hhid": "households", "home": "households", "subject": "subjects", "participant": "participants"}
-UNITS.update({"respondent": "respondents", "consumer": "consumers", "person": "persons", "individual": "individuals", "region": "regions", "firm": "firms"})
-
 
 def share(part: int, whole: int) -> str:
     return f"{part} of {whole} ({100 * part / whole:.1f}%)" if whole else "none"
@@ -41,36 +36,34 @@ def quantile(values: Sequence[Fraction], part: Fraction) -> Fraction:
     return ordered[low] + (place - low) * (ordered[high] - ordered[low])
 
 
-def down(value: Fraction) -> str:
-    """Returns a number of 0 or more to 4 places, rounded down: only what is 1 reads 1.0000."""
-    whole = floor(value * 10**4)
-    return f"{whole // 10**4}.{whole % 10**4:04d}"
+def shown(value: Fraction, digits: int) -> str:
+    """Returns a number of 0 or more to so many decimal places: the nearest, of two the even one; but only 1 reads 1, and only 0 reads 0."""
+    whole = round(value * 10**digits)
+    if whole == 10**digits and value != 1:
+        whole += 1 if value > 1 else -1
+    if whole == 0 and value > 0:
+        return f"<{exact.decimal_text(Fraction(1, 10**digits))}"
+    text = str(whole).rjust(digits + 1, "0")
+    return f"{text[:-digits]}.{text[-digits:]}"
 
 
-def mean(values: Sequence[Fraction]) -> str:
-    """Returns the mean to 4 places; it reads 1.0000 only where all are 1."""
-    text = f"{fsum(map(float, values)) / len(values):.4f}"
-    return "0.9999" if text == "1.0000" and min(values) < 1 else text
+def mean(values: Sequence[Fraction], digits: int) -> str:
+    """Returns the mean; it reads 1 only where all are 1."""
+    return shown(sum(values, Fraction(0)) / len(values), digits)
 
 
-def deviation(values: Sequence[Fraction]) -> str:
-    """Returns the standard deviation of a sample to 4 places."""
-    return f"{stdev(map(float, values)):.4f}" if len(values) > 1 else "none"
+def deviation(values: Sequence[Fraction], digits: int) -> str:
+    """Returns the standard deviation of a sample."""
+    return f"{stdev(map(float, values)):.{digits}f}" if len(values) > 1 else "none"
 
 
-def distribution(name: str, values: Sequence[Fraction]) -> list[tuple[str, str]]:
+def distribution(name: str, values: Sequence[Fraction], digits: int) -> list[tuple[str, str]]:
     """Returns the lines on an index."""
     if not values:
         return [(name, "none")]
     parts = [("minimum", 0), ("first quartile", 1), ("median", 2), ("third quartile", 3), ("maximum", 4)]
-    quantiles = [(f"{name}, {what}", down(quantile(values, Fraction(part, 4)))) for what, part in parts]
-    return [(f"{name}, mean", mean(values)), (f"{name}, standard deviation", deviation(values)), *quantiles]
-
-
-def units_of(panel: Any) -> str:
-    """Returns what the units of a panel are called: by the column that tells them apart, else units."""
-    names = [str(name).strip().lower() for name in panel.by]
-    return next((UNITS[name] for name in names if name in UNITS), "units")
+    quantiles = [(f"{name}, {what}", shown(quantile(values, Fraction(part, 4)), digits)) for what, part in parts]
+    return [(f"{name}, mean", mean(values, digits)), (f"{name}, standard deviation", deviation(values, digits)), *quantiles]
 
 
 def threshold(level: Any) -> tuple[str, Fraction]:
@@ -82,13 +75,14 @@ def threshold(level: Any) -> tuple[str, Fraction]:
     return text, number
 
 
-def lines_of(panel: Any, units: str | None = None, thresholds: Iterable[Any] = THRESHOLDS) -> list[tuple[str, str]]:
+def lines_of(panel: Any, units: str | None = None, thresholds: Iterable[Any] = THRESHOLDS, digits: Any = 3) -> list[tuple[str, str]]:
     """Returns the lines of the table: what is told, and its value. Units without verdicts are counted and left out of the rest; what is
     withheld counts, as what may hold or not."""
+    digits = whole(digits, "digits", 1, 9)
     rows = [row for row in panel if row.fault is None]
     unnamed = sum(row.fault in OF_ID for row in panel)
-    lines = [(units or units_of(panel), str(len(panel) - unnamed)), ("with a verdict (N)", str(len(rows)))]
-    lines += [("records without an id", str(unnamed))] if unnamed else []
+    lines = [(units or panel.units, str(len(panel) - unnamed)), ("with a verdict (N)", str(len(rows)))]
+    lines += [("rows without an id", str(unnamed))] if unnamed else []
     counts = sorted({row.observations for row in rows})
     lines += [("observations of each", f"{counts[0]}" if len(counts) == 1 else f"{counts[0]} to {counts[-1]}")] if counts else []
     asked = [("garp", "GARP holds"), ("homothetic", "homothetic"), ("quasilinear", "quasilinear")]
@@ -96,13 +90,13 @@ def lines_of(panel: Any, units: str | None = None, thresholds: Iterable[Any] = T
     for name, title in asked[:2] if own_money else asked:
         lines.append((title, share_told([getattr(row, name) for row in rows])))
     index = [row.efficiency for row in rows]
-    lines += distribution("CCEI", index)
+    lines += distribution("CCEI", index, digits)
     for text, level in map(threshold, thresholds):
         lines.append((f"CCEI of at least {text}", share(sum(value >= level for value in index), len(index))))
     if "pump" in panel.asked:
-        lines += distribution("maximum money pump", [row.pump for row in rows])
+        lines += distribution("maximum money pump", [row.pump for row in rows], digits)
     if "power" in panel.asked:
-        lines += distribution("power", [row.power for row in rows])
+        lines += distribution("power", [row.power for row in rows], digits)
     return lines
 
 
@@ -115,14 +109,14 @@ def notes_of(panel: Any) -> list[str]:
 ABSENT = f"quasilinear and money pump are absent: {OWN_MONEY}"
 
 
-def text(panel: Any, units: str | None = None, thresholds: Iterable[Any] = THRESHOLDS) -> str:
-    lines = lines_of(panel, units, thresholds)
+def text(panel: Any, units: str | None = None, thresholds: Iterable[Any] = THRESHOLDS, digits: Any = 3) -> str:
+    lines = lines_of(panel, units, thresholds, digits)
     width = max(len(name) for name, _ in lines)
     return "\n".join([*(f"{name.ljust(width)}  {value}" for name, value in lines), *notes_of(panel)]) + "\n"
 
 
-def latex(panel: Any, units: str | None = None, thresholds: Iterable[Any] = THRESHOLDS) -> str:
-    told = [f"{escaped(name)} & {escaped(value)} \\\\" for name, value in lines_of(panel, units, thresholds)]
+def latex(panel: Any, units: str | None = None, thresholds: Iterable[Any] = THRESHOLDS, digits: Any = 3) -> str:
+    told = [f"{escaped(name)} & {escaped(value)} \\\\" for name, value in lines_of(panel, units, thresholds, digits)]
     notes = [f"\\multicolumn{{2}}{{l}}{{\\footnotesize {escaped(it)}}} \\\\" for it in notes_of(panel)]
     ruled = ["\\midrule", *notes] if notes else []
     return "\n".join(["\\begin{tabular}{lr}", "\\toprule", *told[:2], "\\midrule", *told[2:], *ruled, "\\bottomrule", "\\end{tabular}"]) + "\n"

@@ -15,6 +15,8 @@ from .answers import Verdict
 from .faults import BadData
 
 PLAIN, LIGHT, STRONG = "#3b6ea5", "#b9c4d0", "#c0392b"
+# How many bins the bar of an index of 1 stands behind the others.
+SPIKE = 1
 
 
 def axes_of(ax: Any) -> Any:
@@ -57,7 +59,7 @@ def of_verdict(verdict: Verdict, ax: Any = None, *, labels: bool = True) -> Any:
     ax.set_ylabel(table.goods[1])
     ax.set_xlim(left=0)
     ax.set_ylim(bottom=0)
-    index = f"efficiency index {papers.down(verdict.efficiency)}{'' if verdict.attained else ', not attained'}"
+    index = f"efficiency index {papers.shown(verdict.efficiency, 4)}{'' if verdict.attained else ', not attained'}"
     ax.set_title(f"GARP {'holds' if verdict.garp else 'is violated'}; {index}", fontsize=10)
     if marked:
         ax.legend(frameon=False, fontsize=8)
@@ -82,30 +84,41 @@ LEVELS = (Fraction(9, 10), Fraction(19, 20))
 
 
 def of_panel(panel: Any, ax: Any = None, *, random: int = 1000, seed: Any = 1, bins: int = 20, exe: Any = None, workers: int | None = None) -> Any:
-    """Draws how many households have which efficiency index, beside `random` behaviours on the same budgets; 0 leaves these out.
+    """Draws how many units have which efficiency index, beside `random` behaviours on the same budgets; 0 leaves these out. An index of
+    exactly 1 has a bar of its own, apart from those just below.
 
-    A behaviour takes the budgets of one household, in turn, and on each a bundle drawn uniformly on the budget line. Its index is
-    the program's. Beside each stands the share whose index is above 0.90, and above 0.95.
+    A behaviour takes the budgets of one unit, in turn, and on each a bundle drawn uniformly on the budget line. Its index is
+    the program's. Beside each stands the share whose index is at least 0.90, and at least 0.95.
     """
     rows = [row for row in panel if row.fault is None]
     if not rows:
-        raise BadData("no household of this panel has a verdict")
+        raise BadData(f"none of the {panel.units} of this panel has a verdict")
     ax = axes_of(ax)
-    values = [row.ccei for row in rows]
     behaviours = draws.verdicts(rows, random, seed, exe=exe, workers=workers) if random else []
-    drawn = [row.ccei for row in behaviours]
-    low = min([*values, *drawn])
-    edges = [low + (1 - low) * place / bins for place in range(bins + 1)] if low < 1 else [0.95 + 0.05 * place / bins for place in range(bins + 1)]
-    told = [(values, PLAIN, f"{len(values)} households: {shares_told(rows)}")]
-    told += [(drawn, LIGHT, f"{len(drawn)} random behaviours: {shares_told(behaviours)}")] if drawn else []
-    numbers, colors, names = zip(*told)
-    ax.hist(numbers, bins=edges, weights=[[1 / len(own)] * len(own) for own in numbers], color=colors, label=names, rwidth=0.9)
+    told = [(rows, PLAIN, f"{len(rows)} {panel.units}: {shares_told(rows)}")]
+    told += [(behaviours, LIGHT, f"{len(behaviours)} random behaviours: {shares_told(behaviours)}")] if behaviours else []
+    low = min([0.95, *(row.ccei for own, _, _ in told for row in own)])
+    width = (1 - low) / bins
+    for at, (own, color, name) in enumerate(told):
+        starts = [low + width * (place + 0.05 + 0.9 * at / len(told)) for place in [*range(bins), bins + SPIKE]]
+        ax.bar(starts, shares_in(own, low, width, bins), width=0.9 * width / len(told), align="edge", color=color, label=name)
+    ticks = [it for it in ax.get_xticks() if low - width <= it < 1 - width]
+    ax.set_xticks([*ticks, 1 + width * (SPIKE + 0.5)], [*(f"{it:.3g}" for it in ticks), "1"])
     ax.set_xlabel("critical cost efficiency index")
     ax.set_ylabel("share")
     ax.legend(frameon=False, fontsize=8, loc="upper left")
     return ax
 
 
+def shares_in(own: Sequence[Any], low: float, width: float, bins: int) -> list[float]:
+    """Returns the share of some rows whose index lies in each bin below 1, and behind them the share of those that have exactly 1."""
+    found = [0] * (bins + 1)
+    for row in own:
+        found[bins if row.efficiency == 1 else min(bins - 1, int((row.ccei - low) / width))] += 1
+    return [it / len(own) for it in found]
+
+
 def shares_told(answers: Sequence[Any]) -> str:
-    """Returns which share of some verdicts has an index above each level."""
-    return ", ".join(f"{100 * float(draws.share_above(answers, level)):.1f}% above {float(level):.2f}" for level in LEVELS)
+    """Returns which share of some verdicts has an index of at least each level."""
+    share = lambda level: sum(it.efficiency >= level for it in answers) / len(answers)
+    return ", ".join(f"{100 * share(level):.1f}% at least {float(level):.2f}" for level in LEVELS)

@@ -59,6 +59,12 @@ def way(exe: Any = None) -> tuple[Runs | None, str]:
     return (found.run, found.path) if found is not None else (None, find(exe))
 
 
+def version(exe: Any = None) -> str | None:
+    """Returns the version of the library that answers, by its call `rp_version`; None of a program, and of a library up to 0.17.0."""
+    by_library, path = way(exe)
+    return library.known(path).version if by_library is not None else None
+
+
 def wide_way(exe: Any = None) -> tuple[Runs | None, str] | None:
     """Returns how the wider edition is asked, as `way` does; None where it is not there."""
     by_library, path = way(exe)
@@ -84,7 +90,7 @@ def beside(path: str | None, *names: str) -> str | None:
 
 
 def panel_way(exe: Any = None) -> tuple[Runs, str]:
-    """Returns how the table of households is made: by the call of the library, or by the program `rp-panel`. Either is what the
+    """Returns how the table of a panel is made: by the call of the library, or by the program `rp-panel`. Either is what the
     argument names, where that is no `rp`; else what RP_PANEL names, else what belongs to the library or the program that is found.
     """
     given = exe is not None and exe != ""
@@ -241,7 +247,8 @@ def switch(value: Any, name: str) -> bool:
 
 
 def ran_of(status: int, out: bytes, told: bytes) -> Ran:
-    said = [line for line in _text(told).splitlines() if not line.startswith("note: ")]
+    # What a program adds to its own line is said here in the words of this language.
+    said = [line for line in _text(told).splitlines() if not line.startswith(("note: ", "hint: "))]
     return Ran(status, _text(out), "\n".join(said))
 
 

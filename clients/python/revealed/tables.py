@@ -8,7 +8,7 @@ import functools
 from typing import Any, Callable, Iterable, Iterator, Sequence, Tuple, TypeVar, cast
 
 from . import advice, exact, program
-from .advice import HINTS, LEVEL_HINT, LEVELS, MONEY, PRICES, QUANTITIES, WHOLE, Kinds
+from .advice import LEVEL_HINT, LEVELS, MONEY, PRICES, QUANTITIES, WHOLE, Kinds
 from .catalogue import PER
 from .exact import AS_THEY_ARE, Form
 from .faults import BadData, Refused, WrongColumns
@@ -101,20 +101,20 @@ class Sheet:
         if fault in ("BadNumber", "BadLevel") and kind == LEVELS:
             return LEVEL_HINT
         if fault == "BadNumber" and exact.is_missing(value):
-            return "leave the row out, or fill it in"
+            return "The value is missing. Leave the row out, or fill in the value."
         number = exact.fraction_of(value)
         if fault == "BadNumber" and number is not None and number < 0:
-            return "prices and quantities have no sign"
+            return "Prices and quantities have no sign."
         if fault == "BadNumber" and kind == WHOLE and number is not None:
-            return "this is counted, so it is whole"
+            return "This is a count, so it is an integer."
         if fault == "TooManyDecimals" and number is not None:
             may_be_a_line = kind == PRICES and self.kinds.count(PRICES) == 2 and not getattr(self, "own_money", False)
             return advice.too_many_places(kind, self.values(), may_be_a_line)
         if fault == "TooLarge" and number is not None:
-            return advice.too_large(value, kind, self.values())
+            return advice.too_large(kind, self.values())
         if fault in ("Unpaired", "OtherGoods", "Empty") and self.wanted:
-            return f"the columns that are wanted are {self.wanted}; those that were found are {listed(self.names)}"
-        return HINTS.get(fault)
+            return f"The columns that are wanted are {self.wanted}; those that were found are {listed(self.names)}."
+        return advice.hint_of(fault)
 
 
 Forms = Tuple[Form, Form]
@@ -256,7 +256,7 @@ def from_frame(d: Any, *, decimals: Any = None, numbers: Any = "shortest", level
 
     Other columns are left out. Where there is `obs`, it has the labels of the rows; else the frame's index has. `e` has a level
     for each row, in whole thousandths; the argument `levels` gives these too. A label that comes again is refused, and so is a
-    column of households: those are a `panel`. Budget lines of two goods may be kept by their intercepts, `i_NAME` in place of
+    column of ids: those are a `panel`. Budget lines of two goods may be kept by their intercepts, `i_NAME` in place of
     `p_NAME`: they are exchanged, which is exact, and each row has money of its own then.
     """
     forms = forms_of(decimals, numbers)

@@ -17,9 +17,22 @@ class Facts(unittest.TestCase):
         with open(SOURCE, encoding="utf-8") as one, open(os.path.join(revealed.__path__[0], "catalogue.json"), encoding="utf-8") as two:
             self.assertEqual(one.read(), two.read())
 
-    def test_each_fault_has_a_hint_and_no_other(self):
-        self.assertEqual(sorted(advice.HINTS), sorted(catalogue.FAULTS))
-        self.assertTrue(all(advice.HINTS.values()))
+    def test_each_fault_and_each_reason_has_a_sentence(self):
+        for fault in [*catalogue.FAULTS, "NoId", "LongId"]:
+            self.assertRegex(advice.hint_of(fault), r"^[A-Z].*\.$", fault)
+        for reason in catalogue.FACTS["reasons"]:
+            self.assertRegex(catalogue.sentence("reason", reason), r"^[A-Z].*\.$", reason)
+
+    def test_sentences_are_those_of_the_catalogue_in_the_words_of_python(self):
+        for it in catalogue.FACTS["hints"]:
+            said = catalogue.sentence(it["of"], it["code"])
+            self.assertTrue(said.startswith(it["wrong"]), it["code"])
+            self.assertNotRegex(said, "--(per|id)\\b", it["code"])
+        self.assertIn("per=10000", advice.hint_of("NeedUnit"))
+
+    def test_what_units_are_called(self):
+        for name, wanted in [("subject", "subjects"), ("Subject_ID", "subjects"), ("hhid", "households"), ("firm no", "firms"), ("town", None), (7, None)]:
+            self.assertEqual(catalogue.units_by(name), wanted, name)
 
     def test_each_command_has_a_call_of_its_name(self):
         own = {"check": revealed.check, "checkrandom": revealed.checkrandom, **{it: getattr(revealed, it, None) for it in catalogue.COMMANDS}}

@@ -89,7 +89,7 @@ class Faults(unittest.TestCase):
         said = repr(found)
         self.assertLessEqual(len(said.splitlines()), 12, said)
         self.assertTrue(said.startswith("panel of 40 households by 'household', 40 with verdicts\ngarp holds 0, violated 40; efficiency (CCEI) mean"), said)
-        self.assertIn(".. and 34 rows more", said)
+        self.assertIn(".. and 34 more", said)
         html = found._repr_html_()
         self.assertEqual((html.count("<table>"), html.count("<tr>")), (1, 7))
         # what stands in the data is no markup
@@ -103,7 +103,7 @@ class Faults(unittest.TestCase):
         d["q_b"][8] = 0
         found = panel(d)
         self.assertEqual([(it["fault"], it["count"], it["key"]) for it in found.faults()], [("BadNumber", 3, "h1"), ("ZeroBundle", 1, "h4")])
-        self.assertIn("3 without verdicts: BadNumber, the first 'h1'\n1 without verdicts: ZeroBundle, the first 'h4'", repr(found))
+        self.assertIn("3 with an error: BadNumber, the first 'h1'\n1 with an error: ZeroBundle, the first 'h4'", repr(found))
         self.assertIn("row 4, column 'q_a', value 'x'", found.faults()[0]["message"])
 
     def test_refusing_is_not_dearer_than_answering(self):

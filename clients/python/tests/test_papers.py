@@ -45,11 +45,11 @@ class Texts(unittest.TestCase):
             r"with a verdict \(N\) +2",
             "observations of each +2",
             r"GARP holds +1 of 2 \(50\.0%\)",
-            r"CCEI, mean +0\.9000",
+            r"CCEI, mean +0\.900",
             # of 4/5 and 1 the sample's standard deviation is a fifth over the root of 2
-            r"CCEI, standard deviation +0\.1414",
-            r"CCEI of at least 0\.80 +2 of 2",
-            r"maximum money pump, maximum +0\.2000",
+            r"CCEI, standard deviation +0\.141",
+            r"CCEI of at least 0\.90 +1 of 2",
+            r"maximum money pump, maximum +0\.200",
         ):
             self.assertRegex(text, f"(?m)^({line})")
         self.assertEqual(len({len(line.rstrip()) > 0 for line in text.splitlines()}), 1)
@@ -91,10 +91,13 @@ class Texts(unittest.TestCase):
 
     def test_only_what_is_1_reads_1(self):
         self.assertEqual(
-            [papers.down(it) for it in (Fraction(1), 1 - Fraction(1, 10**9), Fraction(4, 5), Fraction(0))], ["1.0000", "0.9999", "0.8000", "0.0000"]
+            [papers.shown(it, 4) for it in (Fraction(1), 1 - Fraction(1, 10**9), Fraction(4, 5), Fraction(0), Fraction(1, 10**9))],
+            ["1.0000", "0.9999", "0.8000", "0.0000", "<0.0001"],
         )
+        # Half way between two, the even one.
+        self.assertEqual([papers.shown(Fraction(it, 2000), 3) for it in (1825, 1827)], ["0.912", "0.914"])
         self.assertEqual(
-            [papers.mean(it) for it in ([Fraction(1)], [Fraction(1), 1 - Fraction(1, 10**9)], [Fraction(4, 5), Fraction(1)])], ["1.0000", "0.9999", "0.9000"]
+            [papers.mean(it, 4) for it in ([Fraction(1)], [Fraction(1), 1 - Fraction(1, 10**9)], [Fraction(4, 5), Fraction(1)])], ["1.0000", "0.9999", "0.9000"]
         )
         self.assertEqual(papers.quantile([Fraction(1), Fraction(0)], Fraction(1, 4)), Fraction(1, 4))
 
@@ -242,7 +245,7 @@ class Pictures(unittest.TestCase):
     def test_a_panel(self):
         axes = made().plot(random=5)
         own, drawn = [it.get_text() for it in axes.get_legend().get_texts()]
-        self.assertEqual(own, "2 households: 50.0% above 0.90, 50.0% above 0.95")
+        self.assertEqual(own, "2 households: 50.0% at least 0.90, 50.0% at least 0.95")
         self.assertRegex(drawn, r"^5 random behaviours: \d+\.0% above 0\.90, \d+\.0% above 0\.95$")
         self.saved(axes)
         self.saved(made().plot(random=0))

@@ -8,6 +8,7 @@ program, and what comes back is compared with the worked answers. That Stata tak
 """
 import contextlib
 import csv
+import json
 import math
 import os
 import re
@@ -65,7 +66,7 @@ class Stata:
     def __init__(self, data, room, options, panel):
         self.data, self.room, self.panel = data, room, panel
         self.count = len(next(iter(data.values())))
-        names = ("digits", "by", "levels", "obs", "exe", "nowide", "generate", "saving", "pump", "newprices", "money")
+        names = ("decimals", "digits", "units", "by", "levels", "obs", "exe", "nowide", "generate", "saving", "pump", "newprices", "money")
         self.locals = {**{name: "" for name in names}, "power": "0", "seed": "1", **options}
         self.system, self.rownames = "Unix", {}
         self.results, self.r, self.code, self.files = {}, {}, 0, {}
@@ -432,6 +433,13 @@ def call(data, panel="", temporary="ein Ordner é ", system="Unix", **options):
         return stata.results, code, " ".join(stata.said), stata
 
 
+def sentence_of(code):
+    """Returns what is wrong and what to do, by the catalogue."""
+    with open(os.path.join(HERE, "..", "..", "..", "docs", "catalogue.json"), encoding="utf-8") as it:
+        (found,) = [one for one in json.load(it)["hints"] if (one["of"], one["code"]) == ("fault", code)]
+    return f"{found['wrong']} {found['do']}"
+
+
 def example(name, text=()):
     with open(os.path.join(EXAMPLES, name), newline="", encoding="utf-8") as it:
         rows = list(csv.DictReader(it))
@@ -462,12 +470,13 @@ def check_verdicts():
     assert found["garp"] == 0, found
     data = example("levels.csv")
     data["e"] = [0.0, 1000.0]
-    assert "BadLevel record 1" in call(data, **BOTH, levels="e")[0]["message"]
+    message = call(data, **BOTH, levels="e")[0]["message"]
+    assert message.startswith("BadLevel record 1 column 5: ") and message.endswith(sentence_of("BadLevel")), message
 
 
 def check_refusals():
     _, code, said, _ = call(example("experiment.csv"), prices="p_x p_y", quantities="q_x q_y")
-    assert code == 459 and "digits(6 5)" in said, (code, said)
+    assert code == 459 and "decimals(6 5)" in said and said.index("intercept") < said.index("decimals("), (code, said)
     data = example("decimals.csv")
     data["q_wine"][1] = None
     found, code, _, _ = call(data, **BOTH)
@@ -519,6 +528,11 @@ def check_panel():
     assert code == 0 and sorted(row["fault"] for row in rows.values()) == ["", "", "", "BadNumber", "ZeroPrice"], rows
     own = rows[panel["household"][0]]
     assert (own["fault"], own["record"], own["column"]) == ("BadNumber", 1, 5), own
+    # What is wrong with groups, and what to do, once for each error; the groups have the word of the user, and none else.
+    panel = {"subject" if name == "household" else name: column for name, column in example("panel/panel.csv", text=("household",)).items()}
+    _, _, said, _ = call(panel, **BOTH, by="subject", decimals="2", units="subjects")
+    assert "5 subjects: GARP holds in 3, and 1 are without a verdict" in said and "household" not in said, said
+    assert f"1 with the error ZeroPrice: {sentence_of('ZeroPrice')}" in said, said
 
 
 def check_ids():
@@ -529,7 +543,7 @@ def check_ids():
     found, code, said, stata = call(data, **names, by="home", generate="v")
     rows = rows_of(found)
     assert code == 0 and {name.strip(): (row["observations"], row["garp"]) for name, row in rows.items()} == {"A": (3, 0), "B": (1, 1), "x\ry": (1, 1)}, rows
-    assert found["unnamed"] == 3 and "3 observations have no household (home), the first of them observation 5" in said, said
+    assert found["unnamed"] == 3 and "3 observations have no id (home), the first of them observation 5" in said, said
     nameless = [garp for name, garp in zip(stata.data["home"], stata.data["v_garp"]) if not name.strip()]
     assert nameless == [MISSING] * 3, stata.data
     data = {**own, "town": ["x"] * 4 + ["y"] * 4, "home": [1.0, 1.0, None, None, 1.0, 1.0, 2.0, None]}

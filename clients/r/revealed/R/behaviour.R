@@ -4,31 +4,31 @@ rp_random_panel <- function(panel, times = NULL, seed = 1, workers = NULL, progr
   if (!inherits(panel, "rp_panel") || inside(panel)$ask == "power") bad_data("random behaviour is drawn on the budgets of a panel of tests or of pumps")
   if ("draw" %in% c(inside(panel)$id, names(inside(panel)$data))) bad_data("a column has the name draw, which random behaviour takes for its own")
   own <- which(answered(panel))
-  if (!length(own)) bad_data("no household has an answer, so there are no budgets")
+  if (!length(own)) bad_data("none of the ", inside(panel)$units, " has a verdict, so there are no budgets")
   # A thousand behaviours, or a few more, where nothing is said.
   times <- if (is.null(times)) ceiling(1000 / length(own)) else as.integer(whole_word(times, "times", "1", "1000000"))
   drawn <- drawn_data(panel, own, times, seed_of(seed))
   # What is drawn has units of its own, so nothing is said of the budgets that were offered.
   attr(drawn, "rp_drawn") <- TRUE
-  rp_panel(drawn, c(inside(panel)$id, "draw"), ask = inside(panel)$ask, workers = workers, progress = progress, exe = exe)
+  rp_panel(drawn, by = c(inside(panel)$id, "draw"), units = "behaviours", ask = inside(panel)$ask, workers = workers, progress = progress, exe = exe)
 }
 
 seed_of <- function(seed) as.numeric(whole_word(seed, "seed", "0", "4294967295"))
 
-# Returns a long frame of behaviours: all households, then all again, as often as `times`, from one stream of words. Prices and
+# Returns a long frame of behaviours: all units, then all again, as often as `times`, from one stream of words. Prices and
 # quantities are whole numbers in units of their own, which change neither the axiom nor an index.
 drawn_data <- function(panel, own, times, seed) {
   tables <- lapply(own, table_in, panel = panel)
   budgets <- lapply(tables, budgets_of)
   drawn <- with_words(seed, lapply(seq_len(times), function(draw) lapply(budgets, behaviour)))
   rows <- vapply(tables, function(table) length(table$labels), 0L)
-  household <- rep(rep(own, rows), times)
+  unit <- rep(rep(own, rows), times)
   goods <- seq_along(tables[[1]]$goods)
   prices <- lapply(goods, function(good) rep(unlist(lapply(budgets, function(it) it$prices[, good])), times))
   quantities <- lapply(goods, function(good) unlist(lapply(drawn, function(all) lapply(all, function(it) it[, good]))))
   levels <- unlist(lapply(tables, `[[`, "levels"))
   frame_of(c(
-    lapply(inside(panel)$keys, `[`, household), list(draw = rep(seq_len(times), each = sum(rows))),
+    lapply(inside(panel)$keys, `[`, unit), list(draw = rep(seq_len(times), each = sum(rows))),
     if (!"obs" %in% inside(panel)$id) list(obs = rep(sequence(rows), times)),
     named(prices, price_names(tables[[1]])), named(quantities, paste0("q_", tables[[1]]$goods)), if (!is.null(levels)) list(e = rep(levels, times))
   ))
@@ -111,24 +111,26 @@ behaviour <- function(budgets) {
 
 # ---- tables
 
-rp_panel_table <- function(panel, random = NULL, what = c("summary", "households"), format = c("text", "latex"),
-                           digits = 3, names = c(unit_names(panel), "Random"),
-                           tests = c("garp", "homothetic", "quasilinear"), thresholds = c(0.90, 0.95, 0.99)) {
+rp_panel_table <- function(panel, random = NULL, what = c("summary", "units"), format = c("text", "latex"),
+                           digits = 3, names = NULL, tests = c("garp", "homothetic", "quasilinear"), thresholds = NULL, units = NULL) {
   if (!inherits(panel, "rp_panel")) bad_data("a table is made of what rp_panel gives")
+  if (is.null(names)) names <- c(capital(if (is.null(units)) inside(panel)$units else unit_words(units, "")), "Random")
+  if (is.null(thresholds)) thresholds <- unlist(catalogue()$thresholds)
   thresholds <- number_texts(thresholds, list(shortest = TRUE))
   if (!all(grepl("^(0([.][0-9]+)?|1([.]0+)?)$", thresholds))) bad_data("thresholds are numbers from 0 to 1, as c(0.90, 0.95)")
   if (!is.null(random) && (!inherits(random, "rp_panel") || inside(random)$ask != inside(panel)$ask)) {
     bad_data("random is a panel of the same kind, as rp_random_panel makes it")
   }
   digits <- as.integer(whole_word(digits, "digits", "1", "9"))
-  what <- chosen(what, c("summary", "households"), "what")
+  # The older name of a row for each unit.
+  what <- if (identical(what, "households")) "units" else chosen(what, c("summary", "units"), "what")
   if (!is.character(tests) || !length(tests) || !all(tests %in% c("garp", "homothetic", "quasilinear"))) {
     bad_data("tests are some of 'garp', 'homothetic', 'quasilinear'")
   }
   asked <- tests
   tests <- intersect(tests, tests_of(inside(panel)$own_money))
   notes <- c(if (!setequal(asked, tests)) paste("quasilinear and money pump are absent:", own_money), offered_line(inside(panel)$offered), inside(panel)$numbers)
-  cells <- if (what == "households") household_cells(panel, digits, tests) else {
+  cells <- if (what == "units") unit_cells(panel, digits, tests) else {
     sides <- lapply(c(list(panel), if (!is.null(random)) list(random)), summary_cells, digits = digits, tests = tests, thresholds = thresholds)
     named(c(list(names(sides[[1]])), lapply(sides, unname)), c("", names[seq_along(sides)]))
   }
@@ -160,7 +162,7 @@ summary_cells <- function(panel, digits, tests, thresholds) {
   own <- frame[answered(panel), ]
   count <- nrow(own)
   counts <- if (count) range(own$observations)
-  common <- c("N" = count, "Without an answer" = nrow(frame) - count, "Observations of each" = paste(unique(counts), collapse = " to "))
+  common <- c("N" = count, "With an error" = nrow(frame) - count, "Observations of each" = paste(unique(counts), collapse = " to "))
   index <- function(x, word) {
     number <- as.double(x)
     found <- if (count) {
@@ -185,7 +187,7 @@ summary_cells <- function(panel, digits, tests, thresholds) {
   )
 }
 
-household_cells <- function(panel, digits, tests) {
+unit_cells <- function(panel, digits, tests) {
   frame <- panel_frame(inside(panel))
   is_answer <- answered(panel)
   word <- function(x) ifelse(is_answer, verdict_word(x), "")
@@ -217,15 +219,8 @@ text_lines <- function(cells) {
   c(lines[1], strrep("-", max(nchar(lines))), lines[-1])
 }
 
-# Returns what the units of a panel are called, by the column that tells them apart.
-unit_names <- function(panel) {
-  known <- c(
-    household = "Households", hh = "Households", hhid = "Households", home = "Households", subject = "Subjects", participant = "Participants",
-    respondent = "Respondents", consumer = "Consumers", person = "Persons", individual = "Individuals", region = "Regions", firm = "Firms"
-  )
-  found <- known[tolower(inside(panel)$id)]
-  c(found[!is.na(found)], "Units")[[1]]
-}
+# Returns a word as it stands above a column.
+capital <- function(word) paste0(toupper(substring(word, 1, 1)), substring(word, 2))
 
 latex_lines <- function(cells, notes = NULL) {
   row <- function(at) paste0(paste(vapply(cells, function(it) latex_text(it[at]), ""), collapse = " & "), " \\\\")

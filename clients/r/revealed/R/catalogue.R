@@ -30,50 +30,43 @@ fault_names <- function() vapply(catalogue()$faults, function(it) it$name, "")
 most_places <- function() limit("table.places")
 digits_taken <- function() nchar(limit_text("table.largest"))
 
-# What to do about each fault where nothing more is known: one for each of the catalogue, and no other (tests/catalogue.R).
-hints <- function() {
-  name <- paste0("a name of a good has 1 to ", limit_text("table.name_bytes"), " bytes, none of them a control character, and stands once")
-  wider <- ": rp lists no more, and rp-wide takes them: leave wide = FALSE out, and have it beside the program, in the library, or named by RP_WIDE"
-  list(
-    Empty = "there is no line at all: see why nothing was written",
-    Ragged = "each record has as many fields as there are names of columns",
-    BadHeader = name,
-    TwiceNamed = name,
-    Unpaired = "a column is missing, or a price stands without its quantity: add it, or leave the good out",
-    TooManyGoods = paste0("there are more than ", limit_text("table.goods"), " goods: put goods together, or leave some out"),
-    NoRecords = "there are no rows",
-    TooManyRecords = paste0(
-      "a table has at most ", limit_text("table.records"), " rows; many households are a panel: rp_panel(data, id = ..)"
-    ),
-    BadNumber = "a number has digits, and possibly a point with digits on both sides",
-    TooManyDecimals = paste("at most", most_places(), "places are taken"),
-    ZeroPrice = "prices are above 0",
-    ZeroBundle = "in each row something is bought, and what is spent is above 0",
-    TooLarge = paste(limit_text("table.largest"), "is the most that is taken, and", limit_text("table.largest_expenditure"), "of money"),
-    OtherGoods = "the goods are those of the table, or of the budgets",
-    TooFine = "it has more places than the table's quantities have: write it with fewer",
-    UnknownBudget = "budgets are numbered from 1 in their order",
-    NoChoices = "nothing was chosen on this budget: leave the budget out, or add its choices",
-    BadLevel = paste0("a level is a share of what was spent, as 0.95, or whole thousandths of it from 1 to ", limit_text("table.level_scale"), ", as 950"),
-    BadMenu = paste("a menu is one to", limit_text("menu.letters"), "letters from a on, each after the one before it, without blanks"),
-    BadChoice = "the letter that was chosen is one of its menu",
-    NoMenus = "every n is 0, so nothing was chosen",
-    TooManyCells = paste0("there are more than ", limit_text("menu.cells"), " pairs of a menu and a choice: ask about fewer menus"),
-    NotJson = "a certificate is JSON in UTF-8",
-    BadVersion = "a certificate has the version 1, or with levels 2",
-    BadShape = "the item is none of its kind, or has a number that no item has; item 0 is the certificate as a whole",
-    TooLong = paste("a file has at most", limit_text("run.bytes"), "bytes, and a certificate", limit_text("run.certificate_bytes")),
-    OwnLevels = "this is defined without levels of observations: leave the column e, or the argument levels, out",
-    TooManyPatches = paste0(
-      "rp takes ", limit_text("patch.patches"), " patches, and rp-wide ", limit_text("generated.patches"), ": ask about fewer budgets"
-    ),
-    NeedUnit = paste0(
-      "the counts have no common multiple up to ", limit_text("patch.units"), ": per = 1000 takes the shares in thousandths, rounded"
-    ),
-    TooManyCombinations = paste0("a patch of each budget can be taken in more than ", limit_text("types.combinations"), " ways", wider),
-    TooManyTypes = paste0("there are more than ", limit_text("types.types"), " rational types", wider)
-  )
+# Returns what is wrong and what to do about a fault, by the sentences of the catalogue, in the words of R; NA where it has none.
+sentence <- function(code, of = "fault") {
+  found <- Filter(function(it) it$code == code && it$of == of, catalogue()$hints)
+  if (!length(found)) return(NA)
+  text <- trimws(paste(found[[1]]$wrong, found[[1]]$do))
+  sub("--id NAME; without this option the name is household", "by =", sub("--per ([0-9]+)", "per = \\1", text), fixed = FALSE)
 }
 
+# What an argument of this package does about a fault, behind that.
+also <- list(
+  TooManyRecords = "If the rows are those of many units, they are a panel: rp_panel(data, by = ..).",
+  OwnLevels = "The argument levels gives them too.",
+  TooManyCombinations = "Leave wide = FALSE out, and have rp-wide beside the program, in the library, or named by RP_WIDE.",
+  TooManyTypes = "Leave wide = FALSE out, and have rp-wide beside the program, in the library, or named by RP_WIDE."
+)
+
 # Returns what to do about a fault where nothing more is known, or NA.
-plain_hint <- function(fault) if (is.null(hints()[[fault]])) NA else hints()[[fault]]
+plain_hint <- function(fault) {
+  if (fault == "BadLevel") {
+    most <- limit_text("table.level_scale")
+    return(paste0("A level is a share of what was spent, such as 0.95, or an integer of thousandths from 1 to ", most, ", such as 950."))
+  }
+  found <- sentence(fault)
+  if (is.na(found) || is.null(also[[fault]])) found else paste(found, also[[fault]])
+}
+
+# What units are called by the names of the columns that tell them apart: subjects by subject, or by subject_id; else units.
+units_by <- function(by) {
+  own <- tolower(trimws(by))
+  known <- unlist(catalogue()$units)
+  found <- c(known[own], known[sub("[ _.-]?(id|no|nr|number)$", "", own)])
+  c(unname(found[!is.na(found)]), "units")[1]
+}
+
+# Returns what units are called: as the argument says, else by the names of their columns.
+unit_words <- function(units, by) {
+  if (is.null(units)) return(units_by(by))
+  if (!is.character(units) || length(units) != 1 || is.na(units) || !nzchar(trimws(units))) bad_data("units is what units are called, such as \"subjects\"")
+  units
+}

@@ -46,7 +46,7 @@ refused <- function(fault, file = "table", places = list(), label = NA, name = N
   )
   known <- places[!is.na(places)]
   # The place, what is wrong and what to do, and at the end the program's own words for it.
-  hint_told <- if (!is.na(hint)) hint else if (length(told)) "refused" else "the data are refused"
+  hint_told <- if (!is.na(hint)) hint else if (length(told)) "an error" else "the data have an error"
   message <- paste0(
     if (length(told)) paste0(paste(told, collapse = ", "), ": "), hint_told,
     " [", paste(c(fault, paste(names(known), unlist(known))[length(known) > 0]), collapse = " "), "]"

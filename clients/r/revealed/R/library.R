@@ -46,6 +46,7 @@ library_call <- function(path, which = "call") {
     found <- tryCatch(calls_in(dyn.load(path)), error = identity)
     if (inherits(found, "error")) no_program(path, " is no library of rp: ", conditionMessage(found))
     assign(path, found, envir = loaded)
+    warn_of_version(path, found$version)
   }
   loaded[[path]][[which]]
 }
@@ -53,7 +54,30 @@ library_call <- function(path, which = "call") {
 calls_in <- function(library) {
   of <- function(name) getNativeSymbolInfo(name, library, withRegistrationInfo = FALSE)$address
   more <- function(name) tryCatch(of(name), error = function(wrong) NULL)
-  list(call = of("rp_answer"), wide = more("rp_answer_wide"), panel = more("rp_panel"))
+  version <- more("rp_version")
+  list(
+    call = of("rp_answer"), wide = more("rp_answer_wide"), panel = more("rp_panel"), version = if (!is.null(version)) .Call(C_revealed_version, version)
+  )
+}
+
+# Warns of a library of another version than this package.
+warn_of_version <- function(path, version) {
+  own <- as.character(utils::packageVersion("revealed"))
+  if (is.null(version) || version == own) return(invisible())
+  message <- paste0("the library ", path, " is of version ", version, ", and the package revealed of version ", own, ": take both of one release")
+  warning(structure(class = c("rp_warning", "warning", "condition"), list(message = message, call = NULL)))
+}
+
+# Returns the version of what answers, by the call `rp_version` of a library; NA of a program, and of a library up to 0.17.0.
+rp_version <- function(exe = NULL) {
+  path <- rp_program(exe)
+  version <- NA_character_
+  if (identical(path, library_inside())) version <- .Call(C_revealed_version, NULL)
+  if (!identical(path, library_inside()) && is_library(path)) {
+    library_call(path)
+    if (!is.null(loaded[[path]]$version)) version <- loaded[[path]]$version
+  }
+  c(package = as.character(utils::packageVersion("revealed")), library = version)
 }
 
 # The statuses that the program has not, and what is said of them.

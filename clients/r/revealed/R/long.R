@@ -1,12 +1,12 @@
 # The call of panels: a long file with a column of ids, and the rows that come of it. Nothing is taken for an answer but a row for each
-# household, and for each record without one.
+# unit, and for each record without one.
 
 panel_columns <- c(
   "household", "observations", "goods", "garp", "efficiency", "efficiency_floor", "attained", "homothetic", "quasilinear", "pump", "pump_floor", "power",
   "fault", "record", "column"
 )
 
-# So many households are asked about in one call at most.
+# So many units are asked about in one call at most.
 panel_block <- 200
 
 # Returns the words of the call over a long file.
@@ -46,7 +46,7 @@ panel_places <- function(program) {
 
 # ---- the long file
 
-# Returns a frame as a long file: `cells` has the texts of each column after the ids, `rows` the rows of each household and then each
+# Returns a frame as a long file: `cells` has the texts of each column after the ids, `rows` the rows of each unit and then each
 # row without one, `ids` its id, which is empty where it has none that is taken.
 long_sheet <- function(data, id, sides, forms) {
   count <- length(sides$goods)
@@ -63,7 +63,7 @@ long_sheet <- function(data, id, sides, forms) {
     names = c(id[1], price_names(sides), paste0("q_", sides$goods), if (levels) "e"), kinds = c("", kinds), columns = c(list(ids), columns),
     labels = labels_in(sides$labels), forms = forms, own_money = sides$own_money
   )
-  # What fits is told by all households, which are rounded alike.
+  # What fits is told by all units, which are rounded alike.
   whole$fit <- once(function() fit_of(whole))
   refuse_doubles(whole, data)
   cells <- lapply(seq_along(columns), function(at) cells_of(columns[[at]], if (nzchar(kinds[at])) of_kind[[kinds[at]]]))
@@ -117,7 +117,7 @@ ids_of <- function(data, id) {
 }
 
 id_texts <- function(x) {
-  if (is.list(x)) bad_data("id: a column is a list")
+  if (is.list(x)) bad_data("by: a column is a list")
   whole <- is.double(x) && is.null(attributes(x))
   text <- if (!whole) as.character(x) else ifelse(is.finite(x) & x == floor(x) & abs(x) < 1e15, sprintf("%.0f", x), as.character(x))
   text[is.na(x)] <- ""
@@ -137,7 +137,7 @@ labels_in <- function(labels) {
 
 # ---- the call
 
-# Returns the rows of some households, by their numbers: a vector of the texts of the columns for each, or what went wrong for all.
+# Returns the rows of some units, by their numbers: a vector of the texts of the columns for each, or what went wrong for all.
 panel_rows <- function(long, numbers, words, engine) {
   blocks <- unlist(lapply(split(numbers, long$is_named[numbers]), function(own) split(own, ceiling(seq_along(own) / panel_block))), recursive = FALSE)
   found <- vector("list", length(numbers))
@@ -156,16 +156,19 @@ block_rows <- function(long, block, words, engine) {
   found
 }
 
-# A household with more records than a table has is refused for that alone, so no more of its records decide anything.
-called_rows <- function(long, block, words, engine) {
+# Returns the long file of some units, and the rows of the frame that are in it. A unit with more records than a table has is refused
+# for that alone, so no more of its records decide anything.
+lines_of_block <- function(long, block) {
   rows <- unlist(lapply(long$rows[block], utils::head, limit("table.records") + 1L))
-  lines <- c(paste(long$header, collapse = ","), do.call(paste, c(list(csv_field(long$columns[[1]][rows])), lapply(long$cells, `[`, rows), sep = ",")))
-  ran <- answer(words, list(long.csv = lines), engine)
-  if (!ran$status %in% 0L) {
-    told <- told_refusal(ran)
-    if (is.null(told)) stop(failed(ran$status, ran$said))
-    stop(refused(told$fault, "table", told$places, hint = panel_hint(told$fault)))
-  }
+  lines <- do.call(paste, c(list(csv_field(long$columns[[1]][rows])), lapply(long$cells, `[`, rows), sep = ","))
+  list(rows = rows, lines = c(paste(long$header, collapse = ","), lines))
+}
+
+called_rows <- function(long, block, words, engine) {
+  sent <- lines_of_block(long, block)
+  rows <- sent$rows
+  ran <- answer(words, list(long.csv = sent$lines), engine)
+  if (!ran$status %in% 0L) stop_at_refused(ran)
   named <- long$is_named[block]
   table <- panel_answer(ran$out, long$ids[block][named], sum(!named))
   with_record <- nzchar(table[, "record"])
@@ -173,7 +176,15 @@ called_rows <- function(long, block, words, engine) {
   lapply(seq_len(nrow(table)), function(at) table[at, ])
 }
 
-# Returns the fields of a table that the call wrote, a row for each of these households and for each of so many records without one; stops
+# Stops with the refusal of a long file as a whole, or of what stands beside it.
+stop_at_refused <- function(ran, new = NULL) {
+  told <- told_refusal(ran)
+  if (is.null(told)) stop(failed(ran$status, ran$said))
+  if (!is.null(new) && told$file == "new") stop(refusal(new, told$fault, told$places))
+  stop(refused(told$fault, "table", told$places, hint = panel_hint(told$fault)))
+}
+
+# Returns the fields of a table that the call wrote, a row for each of these units and for each of so many records without one; stops
 # where it is any other.
 panel_answer <- function(text, ids, unnamed) {
   fields <- csv_rows(text)
@@ -217,7 +228,7 @@ utf8 <- function(texts) {
 
 # ---- faults
 
-# Returns the refusal of a household, told by the names of the frame; NULL where it has verdicts.
+# Returns the refusal of a unit, told by the names of the frame; NULL where it has verdicts.
 panel_refusal <- function(long, texts, rows, data) {
   fault <- texts[["fault"]]
   if (!nzchar(fault)) return(NULL)
@@ -245,12 +256,8 @@ label_of <- function(long, record) {
 
 # Returns what to do about a fault of a panel, or NA.
 panel_hint <- function(fault) {
-  found <- list(
-    NoId = "a record without a household is none's: give it the name of its household, or leave it out",
-    LongId = paste("the name of a household has at most", limit_text("long.household_bytes"), "bytes"),
-    TooManyRecords = paste0(
-      "one household has at most ", limit_text("table.records"), " observations: test parts of its observations apart, such as years"
-    )
-  )[[fault]]
-  if (is.null(found)) NA else found
+  if (fault == "TooManyRecords") {
+    return(paste0("One unit has at most ", limit_text("table.records"), " observations. Test parts of its observations, such as years."))
+  }
+  if (fault %in% c("NoId", "LongId")) sentence(fault) else NA
 }

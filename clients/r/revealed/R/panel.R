@@ -1,15 +1,17 @@
-# A panel: the row of each household of one long frame, on all processors. The frame becomes long files with a column of ids, households
-# in blocks, and the rows are those of the call of panels (`long.R`).
+# A panel: the row of each unit (household, subject, region) of one long frame, on all processors. The frame becomes long files with a
+# column of ids, units in blocks, and the rows are those of the call of panels (`long.R`).
 
-rp_panel <- function(data, id, ask = c("test", "pump", "power"), decimals = digits, levels = NULL, seed = NULL, draws = 1000, workers = NULL,
-                     numbers = "shortest", progress = interactive(), exe = NULL, wide = TRUE, digits = NULL) {
+rp_panel <- function(data, by = id, ask = c("test", "pump", "power"), decimals = digits, levels = NULL, seed = NULL, draws = 1000, workers = NULL,
+                     numbers = "shortest", progress = interactive(), exe = NULL, wide = TRUE, units = NULL, digits = NULL, id = NULL) {
+  id <- by
   kind <- chosen(ask, c("test", "pump", "power"), "ask")
   is_drawn <- isTRUE(attr(data, "rp_drawn", exact = TRUE))
   data <- plain_frame(data)
   if (!is_switch(progress)) bad_data("progress is TRUE or FALSE")
   if (!is_switch(wide)) bad_data("wide is TRUE or FALSE")
-  workers <- if (is.null(workers)) processors() else as.integer(whole_word(workers, "workers", "1", "4096"))
+  workers <- workers_of(workers)
   sides <- c(panel_sides(data, id, levels), is_drawn = is_drawn)
+  units <- unit_words(units, id)
   forms <- forms_of(decimals, numbers)
   if (kind == "power" && is.null(seed)) bad_data("there is no seed: give the argument seed, a whole number")
   if (kind != "test" && !is.null(sides$levels)) {
@@ -19,24 +21,18 @@ rp_panel <- function(data, id, ask = c("test", "pump", "power"), decimals = digi
   words <- panel_words(kind, seed, draws, wide)
   long <- long_sheet(data, id, sides, forms)
   engine <- panel_engine(exe)
-  some <- function(numbers) panel_rows(long, numbers, words, engine)
-  # A few households are asked about by one call.
-  found <- in_parallel(length(long$rows), some, if (length(long$rows) < 50) 1L else workers, progress)
-  if (any(vapply(found, is.null, TRUE))) stop(failed(NA_integer_, "a process of R ended before its answer"))
-  wrong <- Filter(function(it) inherits(it, "rp_error"), found)
-  if (length(wrong)) stop(wrong[[1]])
-  keys <- data[vapply(long$rows, `[`, 1L, 1), id, drop = FALSE]
-  keys <- as.data.frame(keys, row.names = seq_along(long$rows))
+  found <- rows_in_parallel(long, function(numbers) panel_rows(long, numbers, words, engine), workers, progress)
+  keys <- keys_of(long, data, id)
   texts <- do.call(rbind, c(list(matrix("", 0, length(panel_columns), dimnames = list(NULL, panel_columns))), found))
   # Of intercepts exchanged this test tells nothing: the call says what is so of the prices that it was given.
   if (sides$own_money) texts[, "quasilinear"] <- ""
   refusal <- function(at) panel_refusal(long, texts[at, ], long$rows[[at]], data)
-  stop_where_all_are_refused(texts[, "fault"], refusal, keys)
+  stop_where_all_are_refused(texts[, "fault"], refusal, keys, units)
   own <- list2env(list(
     keys = keys, texts = with_places(texts, long, data), ask = kind, data = data, id = id, forms = forms, levels = sides$levels,
-    own_money = sides$own_money, places = long$rows, sides = sides, offered = long$offered, numbers = numbers_line(long)
+    own_money = sides$own_money, units = units, places = long$rows, sides = sides, offered = long$offered, numbers = numbers_line(long)
   ))
-  # Why households have no verdicts is put into words where it is looked at.
+  # Why units have no verdicts is put into words where it is looked at.
   delayedAssign("refusals", lapply(seq_along(long$rows), refusal), assign.env = own)
   structure(panel_frame(own), class = c("rp_panel", "data.frame"), panel = own)
 }
@@ -54,12 +50,30 @@ with_places <- function(texts, long, data) {
   texts
 }
 
-# Stops with the refusal of a panel whose households were all refused for one cause.
-stop_where_all_are_refused <- function(faults, refusal, keys) {
+# Returns how many processes run at once.
+workers_of <- function(workers) if (is.null(workers)) processors() else as.integer(whole_word(workers, "workers", "1", "4096"))
+
+# Returns what `some` gives of the units of a long file, whose numbers it takes; a few units are asked about by one call.
+rows_in_parallel <- function(long, some, workers, progress) {
+  found <- in_parallel(length(long$rows), some, if (length(long$rows) < 50) 1L else workers, progress)
+  if (any(vapply(found, is.null, TRUE))) stop(failed(NA_integer_, "a process of R ended before its answer"))
+  wrong <- Filter(function(it) inherits(it, "rp_error"), found)
+  if (length(wrong)) stop(wrong[[1]])
+  found
+}
+
+# Returns what tells the units of a long file apart, a row for each.
+keys_of <- function(long, data, id) {
+  keys <- data[vapply(long$rows, `[`, 1L, 1), id, drop = FALSE]
+  as.data.frame(keys, row.names = seq_along(long$rows))
+}
+
+# Stops with the error of a panel whose units all have the same one.
+stop_where_all_are_refused <- function(faults, refusal, keys, units) {
   if (!length(faults) || length(unique(faults)) > 1 || !nzchar(faults[[1]])) return(invisible())
   first <- refusal(1)
-  who <- if (length(faults) == 1) "the one household is refused" else {
-    paste("all", format(length(faults), big.mark = ","), "households are refused for one cause, the first")
+  who <- if (length(faults) == 1) paste0("the panel has one unit (", units, "), with an error") else {
+    paste("all", format(length(faults), big.mark = ","), units, "have one error, the first")
   }
   key <- paste(vapply(keys, function(it) quoted(as.character(it[1])), ""), collapse = ", ")
   first$message <- paste0(who, ", ", key, ": ", conditionMessage(first))
@@ -71,14 +85,14 @@ stop_where_all_are_refused <- function(faults, refusal, keys) {
 # Returns the sides of a long frame as those of one table.
 panel_sides <- function(data, id, levels = NULL) {
   if (!is.data.frame(data)) bad_data("a panel is a data frame")
-  if (missing(id) || !is.character(id) || !length(id)) bad_data("id names the column, or the columns, that tell the households apart")
+  if (!is.character(id) || !length(id)) bad_data("by names the column, or the columns, that tell the units apart")
   absent <- setdiff(id, names(data))
-  if (length(absent)) bad_data("id: there is no column ", quoted(absent[1]), "; found: ", listed(names(data)))
+  if (length(absent)) bad_data("by: there is no column ", quoted(absent[1]), "; found: ", listed(names(data)))
   taken <- intersect(id, panel_columns[-1])
-  if (length(taken)) bad_data("id: the answer has a column ", quoted(taken[1]), " of its own; give the column another name")
+  if (length(taken)) bad_data("by: the answer has a column ", quoted(taken[1]), " of its own; give the column another name")
   rest <- as.data.frame(unclass(as.list(data)[!names(data) %in% id]), optional = TRUE, stringsAsFactors = FALSE)
   sides <- sides_of(rest, in_panel = TRUE)
-  # A column that has no numbers is told at once, and not for each household.
+  # A column that has no numbers is told at once, and not for each unit.
   for (column in c(sides$prices, sides$quantities)) number_texts(column[0])
   sides$labels <- frame_labels(if ("obs" %in% names(data)) rest else data)
   if (!is.null(levels)) {
@@ -92,7 +106,7 @@ panel_sides <- function(data, id, levels = NULL) {
   sides
 }
 
-# Returns the table of the household in a row of a panel.
+# Returns the table of the unit in a row of a panel.
 table_in <- function(panel, at) {
   panel <- inside(panel)
   rows <- panel$places[[at]]
@@ -122,7 +136,7 @@ in_parallel <- function(count, some, workers, progress) {
   for (batch in batches) {
     parts <- split(batch, ceiling(seq_along(batch) * (if (workers > 1) 4 * workers else 1) / length(batch)))
     answers <- mclapply(parts, some, mc.cores = if (on_windows()) 1L else workers, mc.set.seed = FALSE, mc.allow.recursive = FALSE)
-    # Where a process ended before its answer, there is none for any of its households.
+    # Where a process ended before its answer, there is none for any of its units.
     answers <- Map(function(it, part) if (is.list(it) && length(it) == length(part)) it else vector("list", length(part)), answers, parts)
     found <- c(found, do.call(c, unname(answers)))
     if (!is.null(bar)) setTxtProgressBar(bar, max(batch))
@@ -182,14 +196,14 @@ panel_lines <- function(x) {
   causes <- sort(table(frame$fault[!answered(x)]), decreasing = TRUE)
   first <- vapply(names(causes), function(it) paste(vapply(inside(x)$keys[match(it, frame$fault), , drop = FALSE], function(key) quoted(as.character(key)), ""), collapse = ", "), "")
   c(
-    paste0("panel of ", count(nrow(frame) - unnamed), " households by ", listed(inside(x)$id), ", ", count(nrow(own)), " with verdicts"),
+    paste0("panel of ", count(nrow(frame) - unnamed), " ", inside(x)$units, " by ", listed(inside(x)$id), ", ", count(nrow(own)), " with verdicts"),
     if (nrow(own)) {
       paste0(
         "garp holds ", count(holds), ", violated ", count(nrow(own) - holds), "; efficiency (CCEI) mean ", shown_index(mean(own$ccei), 4),
         ", minimum ", sprintf("%.6f", min(own$efficiency_floor))
       )
     },
-    sprintf("%s without verdicts: %s, the first %s", count(as.vector(causes)), names(causes), first),
+    sprintf("%s with an error: %s, the first %s", count(as.vector(causes)), names(causes), first),
     if (inside(x)$own_money) paste0("quasilinear: ", own_money),
     offered_line(inside(x)$offered),
     inside(x)$numbers
@@ -206,14 +220,14 @@ print.rp_panel <- function(x, ...) {
   has <- vapply(frame[whole], function(it) !all(is.na(it) | it == ""), TRUE)
   print(utils::head(frame[whole[has]], rows_shown), ...)
   more <- nrow(frame) - rows_shown
-  if (more > 0) cat(".. and ", format(more, big.mark = ","), " rows more, and more columns: as.data.frame() has all\n", sep = "")
+  if (more > 0) cat(".. and ", format(more, big.mark = ","), " more rows, and more columns: as.data.frame() has all\n", sep = "")
   invisible(x)
 }
 
 summary.rp_panel <- function(object, ...) {
   frame <- panel_frame(inside(object))
   own <- frame[answered(object), ]
-  title <- paste0(nrow(frame), " households, ", nrow(frame) - nrow(own), " of them without an answer")
+  title <- paste0(nrow(frame), " ", inside(object)$units, ", ", nrow(frame) - nrow(own), " of them with an error")
   ask <- inside(object)$ask
   if (ask != "test") {
     return(summary_of(as.data.frame(t(as.matrix(summary(own[[ask]])))), title))

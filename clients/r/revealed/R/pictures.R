@@ -86,10 +86,10 @@ draw_key <- function(own) {
   )
 }
 
-# Returns an index with so many places: nearest, but nothing below 1 reads 1, and nothing above 0 reads 0.
+# Returns an index with so many decimal places: the nearest, of two the even one; but only 1 reads 1, and only 0 reads 0.
 shown_index <- function(x, digits = 3) {
   number <- as.double(x)
-  text <- sprintf("%.*f", digits, number)
+  text <- if (inherits(x, "rp_exact")) vapply(bare(x), nearest_text, "", digits = digits, USE.NAMES = FALSE) else sprintf("%.*f", digits, number)
   ten <- 10^digits
   is_one <- if (inherits(x, "rp_exact")) bare(x) == "1" else number >= 1
   is_zero <- if (inherits(x, "rp_exact")) bare(x) == "0" else number <= 0
@@ -97,59 +97,90 @@ shown_index <- function(x, digits = 3) {
   ifelse(!is_zero & as.numeric(text) <= 0, sprintf("<%.*f", digits, 1 / ten), text)
 }
 
-# Draws the distribution of the index over the households of a panel, and beside it that of another, such as random
-# behaviour on the same budgets (after Choi, Fisman, Gale and Kariv 2007), with the share of each above 0.90 and 0.95.
+# Returns a fraction with so many decimal places, the nearest, of two the even one.
+nearest_text <- function(text, digits) {
+  if (is.na(text)) return("NA")
+  parts <- strsplit(text, "/", fixed = TRUE)[[1]]
+  decimal <- if (length(parts) == 1) parts else decimal_of(parts[1], parts[2], digits + 20L)
+  found <- strsplit(paste0(plain_decimal(decimal, digits), "."), ".", fixed = TRUE)[[1]]
+  part <- if (length(found) > 1) found[2] else ""
+  paste0(found[1], ".", part, strrep("0", digits - nchar(part)))
+}
+
+# Draws the distribution of the index over the units of a panel, and beside it that of another, such as random behaviour on the same
+# budgets (after Choi, Fisman, Gale and Kariv 2007), with the share of each of at least 0.90 and 0.95. An index of exactly 1 has a bar of its own.
 plot.rp_panel <- function(x, random = NULL, type = c("histogram", "cumulative"), breaks = seq(0, 1, 0.05), main = NULL, xlab = NULL, ylab = NULL,
-                          names = c("households", "random behaviour"), ...) {
+                          names = NULL, ...) {
   type <- chosen(type, c("histogram", "cumulative"), "type")
+  if (is.null(names)) names <- c(inside(x)$units, "random behaviour")
   own <- list(index_of(x))
   if (!is.null(random)) {
     if (!inherits(random, "rp_panel") || inside(random)$ask != inside(x)$ask) bad_data("random is a panel of the same kind, as rp_random_panel makes it")
     own[[2]] <- index_of(random)
   }
-  if (!all(lengths(own))) bad_data("no household has an answer, so there is no picture")
+  if (!all(lengths(own))) bad_data("none of the ", inside(x)$units, " has a verdict, so there is no picture")
+  is_test <- inside(x)$ask == "test"
   if (is.null(xlab)) xlab <- c(test = "critical cost efficiency index (CCEI)", pump = "money pump ratio", power = "power")[[inside(x)$ask]]
   if (is.null(ylab)) ylab <- if (type == "histogram") "share of each" else "share at or below"
-  if (type == "histogram") draw_histogram(own, breaks, xlab, ylab, main, ...) else draw_cumulative(own, xlab, ylab, main, ...)
+  if (type == "histogram") draw_histogram(own, breaks, xlab, ylab, main, has_spike = is_test, ...) else draw_cumulative(own, xlab, ylab, main, ...)
   words <- paste0(names[seq_along(own)], " (", lengths(own), ")")
-  if (inside(x)$ask == "test") words <- paste0(words, ": ", vapply(c(list(x), if (!is.null(random)) list(random)), shares_above, ""))
-  corner <- if (inside(x)$ask == "test") "topleft" else "topright"
-  graphics::legend(corner, words, fill = ink[c("own", "other")][seq_along(own)], border = NA, bty = "n", cex = 0.9)
+  if (is_test) words <- paste0(words, ": ", vapply(c(list(x), if (!is.null(random)) list(random)), shares_above, ""))
+  graphics::legend(if (is_test) "topleft" else "topright", words, fill = ink[c("own", "other")][seq_along(own)], border = NA, bty = "n", cex = 0.9)
   invisible(x)
 }
 
-# Returns which share of the households that have an answer has an index above 0.90, and above 0.95, by the exact index.
+# Returns which share of the units that have a verdict has an index of at least 0.90, and at least 0.95, by the exact index.
 shares_above <- function(panel) {
   index <- exact(unname(inside(panel)$texts[answered(panel), "efficiency"]))
-  share <- function(level) 100 * mean(as.numeric(index > exact(level)))
-  sprintf("%.1f%% above 0.90, %.1f%% above 0.95", share("9/10"), share("19/20"))
+  share <- function(level) 100 * mean(as.numeric(index >= exact(level)))
+  sprintf("%.1f%% at least 0.90, %.1f%% at least 0.95", share("9/10"), share("19/20"))
 }
 
-# Returns the index of each household that has one, as doubles that only a whole 1 lets read 1.
+# Returns the index of each unit that has one, as doubles that only a whole 1 lets read 1.
 index_of <- function(x) {
   own <- answered(x)
   if (!any(own)) return(numeric())
   as.double(exact(unname(inside(x)$texts[own, c(test = "efficiency", pump = "pump", power = "power")[[inside(x)$ask]]])))
 }
 
-draw_histogram <- function(own, breaks, xlab, ylab, main, ...) {
+# Draws bars of shares. With `has_spike` a value of exactly 1 is in no bin, and has a bar of its own behind them.
+draw_histogram <- function(own, breaks, xlab, ylab, main, has_spike = FALSE, ...) {
   breaks <- sort(unique(as.numeric(breaks)))
   if (length(breaks) < 2 || min(unlist(own)) < breaks[1] || max(unlist(own)) > breaks[length(breaks)]) bad_data("the breaks do not hold every index")
-  # A bin has its right end and not its left one.
-  shares <- lapply(own, function(it) tabulate(findInterval(it, breaks, left.open = TRUE, rightmost.closed = TRUE), length(breaks) - 1) / length(it))
+  shares <- lapply(own, shares_in, breaks = breaks, has_spike = has_spike)
   used <- range(which(Reduce(`+`, shares) > 0))
-  bins <- seq(max(1, used[1] - 1), min(length(breaks) - 1, used[2] + 1))
+  last <- length(breaks) - 1
+  bins <- seq(max(1, min(used[1], last) - 1), if (has_spike) last else min(last, used[2] + 1))
+  left <- breaks[bins]
+  width <- breaks[bins + 1] - left
+  if (has_spike) {
+    # Half a bin apart from the others.
+    left <- c(left, breaks[last + 1] + width[length(width)] / 2)
+    width <- c(width, width[length(width)])
+    bins <- c(bins, last + 1)
+  }
   graphics::plot.new()
-  graphics::plot.window(range(breaks[c(bins, bins + 1)]), c(0, max(unlist(shares)) * 1.15), yaxs = "i", ...)
+  graphics::plot.window(c(left[1], max(left + width)), c(0, max(unlist(shares)) * 1.15), yaxs = "i", ...)
   for (side in seq_along(own)) {
-    left <- breaks[bins]
-    width <- breaks[bins + 1] - left
     from <- left + width * (0.08 + 0.84 * (side - 1) / length(own))
     graphics::rect(from, 0, from + 0.84 * width / length(own), shares[[side]][bins], col = ink[c("own", "other")][side], border = NA)
   }
-  graphics::axis(1)
+  if (has_spike) {
+    ticks <- pretty(breaks[c(bins[1], last + 1)])
+    ticks <- ticks[ticks < 1 - width[1] / 2 & ticks >= left[1]]
+    graphics::axis(1, c(ticks, left[length(left)] + width[length(width)] / 2), c(format(ticks), "1"))
+  } else {
+    graphics::axis(1)
+  }
   graphics::axis(2, las = 1)
   graphics::title(main = main, xlab = xlab, ylab = ylab)
+}
+
+# Returns the share of values in each bin, which has its right end and not its left one, and behind them that of exactly 1.
+shares_in <- function(values, breaks, has_spike) {
+  is_one <- has_spike & values == 1
+  bins <- findInterval(values[!is_one], breaks, left.open = TRUE, rightmost.closed = TRUE)
+  c(tabulate(bins, length(breaks) - 1), if (has_spike) sum(is_one)) / length(values)
 }
 
 draw_cumulative <- function(own, xlab, ylab, main, ...) {

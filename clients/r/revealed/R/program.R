@@ -43,8 +43,8 @@ rp_program <- function(exe = NULL, must = TRUE) {
     beside <- if (length(program)) library_of(program[1]) else Find(is_there, library_places())
     found <- Find(is.character, list(library_inside(), beside, if (length(program)) program[1]))
     where <- paste0(
-      "there is no program ", program_name(), ": unpack a release of it, and name its program or its library by exe =. Now the argument exe is ",
-      "not given, the variables RP_LIBRARY and RP_EXEC are not set, there is none of ", listed(places), ", no ", usual_release(), " in ",
+      "Install the package of a release, which has the program inside of it: ", release_file(), ". Or unpack a release, and name its program or library by exe =. ",
+      "There is no program ", program_name(), " now: the argument exe is not given, the variables RP_LIBRARY and RP_EXEC are not set, there is none of ", listed(places), ", no ", usual_release(), " in ",
       listed(usual_roots()), if (!on_windows()) paste0(", no librp.so in ", listed(unique(dirname(library_places())))),
       ", and no ", program_name(), " on the path: ", Sys.getenv("PATH")
     )
@@ -78,6 +78,9 @@ usual_roots <- function(windows = on_windows()) {
   home <- Sys.getenv("HOME")
   c(if (nzchar(home)) c(home, file.path(home, c(".local", "Downloads"))), "/opt", "/usr/local")
 }
+
+# Returns the name of the package of a release.
+release_file <- function() paste0("install.packages(\"revealed_", utils::packageVersion("revealed"), ".tar.gz\", repos = NULL, type = \"source\")")
 
 usual_release <- function(windows = on_windows()) paste0("rp-VERSION-x86_64-", if (windows) "windows/rp.exe" else "linux/rp")
 
@@ -185,7 +188,7 @@ run_in <- function(folder, words, exe) {
 # Returns how a call ended: its status, its output, and its own words on standard error.
 ended <- function(status, out, said) {
   said <- strsplit(said, "\n", fixed = TRUE)[[1]]
-  list(status = status, out = out, said = paste(said[!startsWith(said, "note: ")], collapse = "\n"))
+  list(status = status, out = out, said = paste(said[!grepl("^(note|hint): ", said)], collapse = "\n"))
 }
 
 write_file <- function(data, path) {

@@ -74,7 +74,7 @@ row_labels <- function(labels, apart = FALSE, advice = "") {
   if (twice && apart) {
     bad_data(
       "rows ", match(labels[twice], labels), " and ", twice, " are both called ", if (is.na(labels[twice])) "NA" else quoted(labels[twice]),
-      ", and a table is one household: ", advice
+      ", and a table is one unit, such as a subject. ", advice
     )
   }
   if (twice || anyNA(labels)) seq_along(labels) else labels
@@ -107,8 +107,8 @@ is_missing <- function(value) identical(number_texts(value), "")
 hint_of <- function(sheet, fault, column, value) {
   text <- if (is.null(value)) "" else number_texts(value, list(shortest = are_shortest(sheet$forms)))
   if (fault == "BadNumber" && !is.null(value)) {
-    if (text == "") return("leave the row out, or fill it in")
-    if (grepl("^-[0-9]", text)) return("prices and quantities have no sign")
+    if (text == "") return("The value is missing. Leave the row out, or fill in the value.")
+    if (grepl("^-[0-9]", text)) return("Prices and quantities have no sign.")
     return(plain_hint(if (sheet$names[column] == "e") "BadLevel" else fault))
   }
   switch(fault,
@@ -122,13 +122,13 @@ hint_of <- function(sheet, fault, column, value) {
 # Returns what to do about a number of too many places, in at most four lines.
 too_many_places_hint <- function(sheet, kind) {
   if (!kind %in% c("price", "quantity")) {
-    return(paste0("it needs more than ", most_places(), " decimal places. Give it as a text of at most ", most_places(), " decimal places."))
+    return(paste0("It needs more than ", most_places(), " decimal places. Give it as a text of at most ", most_places(), " decimal places."))
   }
   fit <- own_fit(sheet)
   others <- fit$too_fine - 1
   paste(c(
     paste0(
-      "it needs more than ", most_places(), " decimal places or ", digits_taken(), " digits",
+      "It needs more than ", most_places(), " decimal places or ", digits_taken(), " digits",
       if (others == 1) ", as does 1 other number" else if (others > 1) paste0(", as do ", format(others, big.mark = ",", scientific = FALSE), " other numbers"), "."
     ),
     if (kind == "price" && sum(sheet$kinds == "price") == 2 && !isTRUE(sheet$own_money)) {
@@ -143,19 +143,17 @@ too_many_places_hint <- function(sheet, kind) {
 
 too_fine_hint <- function(kind) {
   if (kind == "money") {
-    return("it has more places than the new prices and the table's quantities have together: multiply the new prices and it by 10 until it fits")
+    return("It has more decimal places than the new prices and the table's quantities have together. Multiply the new prices and it by 10 until it fits.")
   }
   plain_hint("TooFine")
 }
 
 too_large_hint <- function(sheet, kind) {
   if (!nzchar(kind) || kind == "money") return(plain_hint("TooLarge"))
-  places <- places_of(sheet, kind)
   what <- if (kind == "price") "prices" else "quantities"
   paste0(
-    what, " are counted in units of their last place, here the ", if (places) paste0(places, ". behind the point") else "whole number",
-    ", of which ", limit_text("table.largest"), " are the most that is taken: the largest may have ", digits_taken(), " digits with the places of all; ", rounding_advice(sheet),
-    "; or take another unit of the good, by which its price and its quantity are both short, as a price per ton with a quantity in tons"
+    "In units of the last decimal place that any of the ", what, " has, a number is at most ", limit_text("table.largest"), ". ", rounding_advice(sheet),
+    " Another unit of the good changes its price and its quantity, and no verdict."
   )
 }
 
@@ -164,7 +162,7 @@ rounding_advice <- function(sheet) {
   fit <- own_fit(sheet)
   if (any(fit$places %in% -1L)) {
     large <- c("prices", "quantities")[match(-1L, fit$places)]
-    return(paste("the largest of the", large, "has more than", digits_taken(), "digits before its point, so no rounding helps: take a larger unit"))
+    return(paste("The largest of the", large, "has more than", digits_taken(), "digits before its point, so no rounding helps. Take a larger unit."))
   }
   # NA leaves a kind as it is that needs no rounding, or that this file has not.
   asked <- ifelse(is.na(fit$places) | fit$fine == 0, "NA", fit$places)

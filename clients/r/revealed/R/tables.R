@@ -52,8 +52,8 @@ thousandths <- function(levels) {
 }
 
 id_advice <- function(id) {
-  if (is.null(id)) return("say rp_panel(data, id = ..) with the column that tells the households apart, or give each row a label of its own")
-  paste0("id = ", paste(quoted(id), collapse = ", "), " does not tell the households apart; name every column that does")
+  if (is.null(id)) return("Use rp_panel(data, by = ..) with the column that tells the units apart, or give each row a label of its own.")
+  paste0("by = ", paste(quoted(id), collapse = ", "), " does not tell the units apart. Name every column that does.")
 }
 
 levels_for <- function(levels, count) {
@@ -106,20 +106,14 @@ sides_of <- function(d, in_panel = FALSE) {
   )
 }
 
-# The names by which a column of households is known.
-households <- c(
-  "household", "household_id", "householdid", "hh", "hhid", "hh_id", "subject", "subject_id", "subjectid", "participant", "participant_id",
-  "participantid", "respondent", "respondent_id", "consumer", "consumer_id", "person", "person_id", "individual", "id", "pid", "uid"
-)
-
-# Refuses a frame with a column of households: one with such a name whose values come again.
+# Refuses a frame with a column of ids: one with such a name whose values come again.
 no_panel <- function(d, left_out) {
-  for (name in left_out[trimws(tolower(left_out)) %in% households]) {
+  for (name in left_out[trimws(tolower(left_out)) %in% unlist(catalogue()$id_columns)]) {
     values <- length(unique(d[[name]]))
     if (values > 1 && values < nrow(d)) {
       bad_data(
-        "the column ", quoted(name), " has ", values, " values for ", nrow(d), " rows, and a table is one household: say rp_panel(data, id = ",
-        quoted(name), "); if these rows are one household, leave the column out"
+        "the column ", quoted(name), " has ", values, " values for ", nrow(d), " rows, and a table is one unit, such as a subject. Use rp_panel(data, by = ",
+        quoted(name), "). If these rows are those of one unit, leave the column out."
       )
     }
   }

@@ -4,14 +4,14 @@
 \title{Pictures of a Verdict and of a Panel}
 \description{
 Draws the budget lines of a table of two goods, what was chosen on each, and the cycle that violates the axiom; and the distribution of
-the index over the households of a panel, beside that of random behaviour.
+the index over the units of a panel, beside that of random behaviour.
 }
 \usage{
 \method{plot}{rp_test}(x, labels = NULL, main = NULL, xlab = NULL, ylab = NULL,
   legend = TRUE, ...)
 \method{plot}{rp_panel}(x, random = NULL, type = c("histogram", "cumulative"),
   breaks = seq(0, 1, 0.05), main = NULL, xlab = NULL, ylab = NULL,
-  names = c("households", "random behaviour"), ...)
+  names = NULL, ...)
 }
 \arguments{
 \item{x}{an answer of \code{\link{rp_test}} on two goods, or of \code{\link{rp_panel}}.}
@@ -20,8 +20,8 @@ the index over the households of a panel, beside that of random behaviour.
 \item{legend}{whether there is a legend.}
 \item{random}{another panel of the same kind, such as \code{\link{rp_random_panel}} gives.}
 \item{type}{shares of each in bins of the index, or how many are at or below each value.}
-\item{breaks}{the ends of the bins; a bin has its right end and not its left one, but for the first, which has both.}
-\item{names}{what the legend calls the two. Of the efficiency index it tells beside each which share is above 0.90, and above 0.95.}
+\item{breaks}{the ends of the bins; a bin has its right end and not its left one, but for the first, which has both. An efficiency index of exactly 1 is in no bin and has a bar of its own.}
+\item{names}{what the legend calls the two; by default what the units are called, and random behaviour. Of the efficiency index it tells beside each which share is at least 0.90, and at least 0.95.}
 \item{...}{for \code{plot.window}.}
 }
 \value{

@@ -12,7 +12,7 @@ this package is}.
 Integers, texts and numbers of \pkg{gmp} go to the program exactly as they are. A double is a binary fraction: the one that
 \code{read.csv} makes of 23.86 is 23.859999999999999431566. It is taken as the shortest decimal that gives it back, 23.86, where that
 has at most 6 decimal places and 7 digits, and the printed answer says so (\code{numbers: shortest decimals of doubles}). A double that
-needs more is refused, in a panel for all households at once. \code{decimals} asks for rounding, half to even: one number of decimal
+needs more is refused, in a panel for all units at once. \code{decimals} asks for rounding, half to even: one number of decimal
 places, or two, of prices and of quantities; the refusal says which fit. \code{numbers = "exact"} takes each double as the binary
 fraction that it is. A missing value is refused.
 
@@ -44,7 +44,7 @@ one call. Goods and rows may have any names; the program is given numbers in the
 Each condition is an \code{rp_error}: \code{rp_refused} where the data were refused, with \code{fault}, \code{file},
 \code{record}, \code{column}, \code{budget}, \code{menu}, \code{item} (places in what the program was given, from 1), the row's own
 \code{label}, the column's \code{name}, the \code{value} there and a \code{hint}, each \code{NA} where there is none;
-\code{rp_all_refused}, also an \code{rp_refused}, where all households of a panel were refused for one cause;
+\code{rp_all_refused}, also an \code{rp_refused}, where all units of a panel have one error;
 \code{rp_bad_data} where the data have no shape of a table, and the program was not run; \code{rp_failed} where the program
 ended with another \code{status}, with what it \code{said}; and \code{rp_no_program}.
 }

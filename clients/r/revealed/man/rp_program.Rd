@@ -1,5 +1,6 @@
 \name{rp_program}
 \alias{rp_program}
+\alias{rp_version}
 \title{Where the Program or Its Library Is}
 \description{
 Finds what answers: the program \code{rp}, or its library \code{librp}, which answers in memory, without a process and without
@@ -18,12 +19,17 @@ the program is started without a shell, and a panel is answered by one process.
 }
 \usage{
 rp_program(exe = NULL, must = TRUE)
+rp_version(exe = NULL)
 }
 \arguments{
 \item{exe}{the file of the program or of the library (a name such as \file{librp.so}), or its name on the path.}
 \item{must}{whether it is an error (\code{rp_no_program}) that there is none.}
 }
-\value{Its path, or \code{NULL}.}
+\value{
+The path of the program or library, or \code{NULL}. \code{rp_version} gives the versions of the package and of the library that
+is used; that of a program, and of a library up to 0.17.0, is \code{NA}. A library of another version than the package gives a warning when
+it is loaded (\code{rp_warning}).
+}
 \section{Processes}{
 \code{\link{rp_panel}} asks the library from copies of R's own process (\code{\link[parallel]{mclapply}}). Where R has threads, as
 with some graphical interfaces, \code{workers = 1} keeps to this process.

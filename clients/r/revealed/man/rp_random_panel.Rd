@@ -2,8 +2,8 @@
 \alias{rp_random_panel}
 \title{Random Behaviour on the Budgets of a Panel}
 \description{
-Draws behaviour at random on the budgets of each household and gives the answers on it, so that the distribution of an index can stand
-beside that of the households.
+Draws behaviour at random on the budgets of each unit and gives the answers on it, so that the distribution of an index can stand
+beside that of the units.
 }
 \usage{
 rp_random_panel(panel, times = NULL, seed = 1, workers = NULL, progress = FALSE,
@@ -11,16 +11,16 @@ rp_random_panel(panel, times = NULL, seed = 1, workers = NULL, progress = FALSE,
 }
 \arguments{
 \item{panel}{what \code{\link{rp_panel}} gave, of tests or of money pumps.}
-\item{times}{how many behaviours are drawn for each household; else as many as make a thousand, or a few more.}
+\item{times}{how many behaviours are drawn for each unit; else as many as make a thousand, or a few more.}
 \item{seed}{a whole number from 0 to 4294967295. The package for Python and the page draw the same behaviours from it. The words are
 those of R's generator \code{"L'Ecuyer-CMRG"}; the generator of the session is left as it was.}
 \item{workers, progress, exe}{as for \code{\link{rp_panel}}.}
 }
 \value{
-An \code{rp_panel} with the column \code{draw} beside those of the households. In each row a bundle is drawn on the budget line (with
-more goods, on the budget plane), each point as likely as any other (Bronars 1987). One stream of draws takes all households, then
+An \code{rp_panel} with the column \code{draw} beside those of the units. In each row a bundle is drawn on the budget line (with
+more goods, on the budget plane), each point as likely as any other (Bronars 1987). One stream of draws takes all units, then
 all again. Its \code{data} has what was drawn, prices and quantities as whole numbers in units of their own, which change neither
-the axiom nor an index. A household without an answer has no draws.
+the axiom nor an index. A unit without a verdict has no draws.
 }
 \references{
 Bronars, S. (1987) The power of nonparametric tests of preference maximization. \emph{Econometrica} 55, 693--698.

@@ -27,7 +27,7 @@ data frame with columns \code{p_NAME} and \code{q_NAME} for each good, and perha
 out, which the printed answer tells. Budget lines of two goods may be kept by their intercepts, in columns \code{i_NAME} in place of
 \code{p_NAME}: these are exchanged, which is exact, and each row has money of its own then, so that
 \code{quasilinear} is \code{NA}, with the reason. A column \code{obs} has the labels of the rows, else the row names have. A label that
-stands twice is an error, and so is a column with a name such as \code{household} or \code{id} whose values come again: such a
+stands twice is an error, and so is a column with a name such as \code{subject} or \code{id} whose values come again: such a
 table is most likely a panel (\code{\link{rp_panel}}).}
 \item{q}{quantities in the same shape. Where both have column names of the same goods (\code{p_} and \code{q_} in front do
 not count), they are put together by these, and matrices else by place.}
@@ -53,8 +53,8 @@ wider edition gives, with evidence that \code{\link{rp_check}} accepts. \code{ef
 efficiency index, \code{ccei} the nearest double, but below 1 where the index is, and
 \code{attained} tells whether the axiom holds at it. \code{ranks}, \code{utility} and \code{lambda} are there where the axiom
 holds, by the labels of the rows, and \code{cycle} where it fails. \code{evidence} has the rest of what shows each verdict,
-\code{certificate} all of it as JSON, and \code{table} what was asked about, for \code{\link{rp_check}}. \code{rp_analyse} is
-another name of the call, and \code{rp_certify} gives the certificate alone.
+\code{certificate} all of it as JSON, and \code{table} what was asked about, for \code{\link{rp_check}}. \code{rp_test} is another name of
+\code{rp_analyse}, and \code{rp_certify} gives the certificate alone.
 
 With levels \code{garp} and \code{afriat} are by these, and the others by costs alone.
 

@@ -5,3 +5,5 @@ rp_call *revealed_inside(int which) {
     (void)which;
     return NULL;
 }
+
+rp_version_call *revealed_inside_version(void) { return NULL; }

@@ -14,7 +14,13 @@ typedef int32_t rp_call(
     uint8_t *told, size_t told_room,
     uint64_t *output_length, uint64_t *told_length);
 
+/* The version of the library, as rp.h declares it. */
+typedef const char *rp_version_call(void);
+
 /* `rp_answer`, or by 1 `rp_answer_wide`, by 2 `rp_panel`; NULL where the library is not inside. */
 rp_call *revealed_inside(int which);
+
+/* `rp_version`; NULL where the library is not inside. */
+rp_version_call *revealed_inside_version(void);
 
 #endif

@@ -110,8 +110,17 @@ static SEXP revealed_own(SEXP which) {
     return call ? R_MakeExternalPtrFn((DL_FUNC)call, R_NilValue, R_NilValue) : R_NilValue;
 }
 
+/* Returns the version of a library, whose call of rp.h this is, or of the one inside the package; NULL where that is not there. */
+static SEXP revealed_version(SEXP library) {
+    rp_version_call *call = library == R_NilValue ? revealed_inside_version() : (rp_version_call *)R_ExternalPtrAddrFn(library);
+    return call ? mkString(call()) : R_NilValue;
+}
+
 static const R_CallMethodDef CALLS[] = {
-    {"revealed_answer", (DL_FUNC)&revealed_answer, 4}, {"revealed_own", (DL_FUNC)&revealed_own, 1}, {NULL, NULL, 0}};
+    {"revealed_answer", (DL_FUNC)&revealed_answer, 4},
+    {"revealed_own", (DL_FUNC)&revealed_own, 1},
+    {"revealed_version", (DL_FUNC)&revealed_version, 1},
+    {NULL, NULL, 0}};
 
 void R_init_revealed(DllInfo *info) {
     R_registerRoutines(info, NULL, CALLS, NULL, NULL);

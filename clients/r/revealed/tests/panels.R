@@ -43,7 +43,7 @@ mixed <- frame(rep(paste0("h", 1:9), each = 2))
 mixed$q_a <- c(1, 2, "x", 2, "y", 2, rep(1:2, 6))
 found <- rp_panel(mixed, "household", workers = 1)
 shown <- capture.output(print(found))
-stopifnot(length(shown) <= 13, any(shown == "2 without verdicts: BadNumber, the first 'h2'"), grepl("row 3, column 'q_a', value 'x'", conditionMessage(found$refusals[[2]])))
+stopifnot(length(shown) <= 13, any(shown == "2 with an error: BadNumber, the first 'h2'"), grepl("row 3, column 'q_a', value 'x'", conditionMessage(found$refusals[[2]])))
 said <- conditionMessage(rp_panel(long, "household", workers = 1)$refusals[[1]])
 stopifnot(grepl("at most 512 observations", said), !grepl("columns", said))
 # of budget lines by their intercepts no quasilinear verdict is told anywhere
@@ -51,7 +51,42 @@ lines <- data.frame(s = c(1, 1), i_x = c("87.13", "45.50"), i_y = c("33.61", "62
 found <- rp_panel(lines, "s", workers = 1)
 stopifnot(is.na(found$quasilinear), found$texts[, "quasilinear"] == "", !any(grepl("violated|holds", grep("quasilinear", capture.output(print(found)), value = TRUE))))
 
-# what is no table of these households is no answer
+# the same word in each language: by, units, decimals; and subjects are no households
+people <- data.frame(subject = c("a", "a", "b", "b", "c"), p_x = c(1, 2, 1, 2, 0), p_y = c(2, 1, 2, 1, 1), q_x = c(1, 2, 2, 1, 1), q_y = c(2, 1, 1, 2, 1))
+found <- rp_panel(people, by = "subject", workers = 1)
+stopifnot(identical(found$garp, c(FALSE, TRUE, NA)), identical(found$garp, rp_panel(people, id = "subject", workers = 1)$garp))
+said <- c(capture.output(print(found)), capture.output(print(summary(found))), as.character(rp_panel_table(found)))
+stopifnot(grepl("^panel of 3 subjects by 'subject'", said[1]), !any(grepl("household", said)), any(grepl("Subjects", said)))
+stopifnot(any(grepl("^panel of 3 players", capture.output(print(rp_panel(people, "subject", units = "players", workers = 1))))))
+every <- caught(rp_panel(transform(people, p_x = 0), "subject", workers = 1), "rp_all_refused")
+stopifnot(startsWith(conditionMessage(every), "all 3 subjects have one error, the first, 'a': row 1, column 'p_x', value 0: This price is 0"))
+caught(rp_panel(people, "subject", units = 3, workers = 1), "rp_bad_data")
+table <- as.character(rp_panel_table(found, thresholds = c("0.8", "0.81")))
+stopifnot(any(grepl("^CCEI of at least 0.80 +2 of 2", table)), any(grepl("^CCEI of at least 0.81 +1 of 2", table)), any(grepl("^CCEI, median +0.900", table)))
+# an index of exactly 1 is in a bin of its own
+stopifnot(revealed:::shares_in(c(1, 0.999999, 0.9, 1), c(0.9, 0.95, 1), TRUE) == c(0.25, 0.25, 0.5))
+
+# the bounds of each unit at new prices are those of its own table
+new <- data.frame(x = 1:2, y = c(1, 1))
+found <- rp_panel_demand(people, by = "subject", new = new, m = c(3, 4), workers = 1)
+own <- rp_demand(people[3:4, -1], new = new, m = c(3, 4))$bounds
+mine <- as.data.frame(found)[found$subject == "b", ]
+stopifnot(as.character(mine$lower_exact) == as.character(own$lower), as.character(mine$upper_exact) == as.character(own$upper), identical(mine$good, own$good))
+# on the budget x + y = 3 the demand at prices (1, 2) and (2, 1) leaves x from 1 to 2
+stopifnot(mine$lower[1] == 1, mine$upper[1] == 2, identical(as.data.frame(found)$garp, c(FALSE, rep(TRUE, 4), NA)))
+stopifnot(identical(as.data.frame(found)$fault, c(rep("", 5), "ZeroPrice")), grepl("row 5, column 'p_x'", as.data.frame(found)$reason[6]))
+shown <- capture.output(print(found))
+stopifnot(shown[1:3] == c("panel of 3 subjects by 'subject', bounds on demand for 1", "garp violated 1: no bounds", "1 with an error: ZeroPrice"))
+found <- as.data.frame(rp_panel_welfare(cbind(people, obs = c(1, 2, 7, 8, 1)), "subject", new = c(1, 1), workers = 1))
+stopifnot(identical(found$observation, c(NA, 7, 8, NA)) || identical(found$observation, c(NA, 7L, 8L, NA)), found$lower[2:3] == 2, found$upper[2:3] == 3)
+for (wrong in list(c(1, 0), c(1.1234567, 1))) {
+  said <- caught(rp_panel_demand(people, "subject", new = wrong, m = 3, workers = 1), "rp_refused")
+  stopifnot(said$file == "new")
+}
+caught(rp_panel_demand(people, "subject", m = 3, workers = 1), "rp_bad_data")
+caught(rp_panel_welfare(transform(people, p_x = 0), "subject", new = c(1, 1), workers = 1), "rp_all_refused")
+
+# what is no table of these units is no answer
 if (.Platform$OS.type == "unix") {
   fake <- function(lines) {
     path <- file.path(tempdir(), "rp-panel")

@@ -1,0 +1,302 @@
+"""The results of a panel: the row of each unit, and what is said of all of them together."""
+
+from __future__ import annotations
+
+from collections import Counter
+from fractions import Fraction
+from functools import cached_property
+from html import escape
+from statistics import fmean
+from typing import TYPE_CHECKING, Any, Callable, Iterable, Sequence
+
+from . import exact
+from .answers import Verdict
+from .catalogue import units_by
+from .commands import analyse
+from .faults import BadData
+from .long_call import BLANKS, COLUMNS, OF_ID, line_of
+from .offered import Offered
+from .tables import OWN_MONEY, Table
+
+if TYPE_CHECKING:
+    from .panels import Household
+
+# So many rows are shown of a panel.
+SHOWN = 6
+TRUTH = {"holds": True, "violated": False, "yes": True, "no": False}
+
+
+def units_of(by: Sequence[Any]) -> str:
+    """Returns what units are called, by the name of a column that tells them apart, as `subjects` for `subject`; else `units`."""
+    return next(filter(None, map(units_by, by)), "units")
+
+
+def of_words(units: Any, by: Sequence[Any]) -> str:
+    """Returns what units are called: as the argument `units` says, else by the name of their column."""
+    if units is None:
+        return units_of(by)
+    if not isinstance(units, str) or not units.strip():
+        raise BadData(f"units is what units are called, such as 'subjects', and not {exact.shown(units, repr)}")
+    return units
+
+
+def id_text(key: Any) -> str:
+    """Returns the text of a key: a number that is whole has that of the whole number."""
+    if isinstance(key, float) and key.is_integer():
+        key = int(key)
+    return str(key)
+
+
+class Row:
+    """The row of a unit of a panel: its `key`, and under the names of the columns of a panel what the call says of it.
+
+    `garp`, `homothetic`, `quasilinear` and `attained` are True or False, and None where the verdict is withheld or there is none;
+    `efficiency`, `pump` and `power` are Fractions, and with `_floor` behind their names numbers of six places, rounded down.
+    `fault` is None, or why there are no verdicts, with the `record`, from 1, and the `column` of the frame; `refusal` tells it in
+    words. `verdict` is the Verdict with its certificate, which is asked for when it is looked at.
+    """
+
+    def __init__(self, key: Any, texts: Sequence[str], own: Household, refusal: Callable[[], Exception] | None = None) -> None:
+        self.key = key
+        self.texts = dict(zip(COLUMNS, texts))
+        self._refusal = refusal
+        self._own = own
+        self._verdict: Verdict | None = None
+        it = self.texts
+        if self.own_money:
+            # The call was given prices, and says what is so of these. Of the data this test is not told: see `message`.
+            it["quasilinear"] = ""
+        self.observations, self.goods, self.record, self.column = (_whole(it[name]) for name in ("observations", "goods", "record", "column"))
+        self.garp, self.attained, self.homothetic, self.quasilinear = (TRUTH.get(it[name]) for name in ("garp", "attained", "homothetic", "quasilinear"))
+        self.efficiency, self.pump, self.power = (_fraction(it[name]) for name in ("efficiency", "pump", "power"))
+        self.efficiency_floor, self.pump_floor = (_number(it[name]) for name in ("efficiency_floor", "pump_floor"))
+        self.fault: str | None = it["fault"] or None
+
+    @cached_property
+    def refusal(self) -> Exception | None:
+        """Why there are no verdicts, as an exception; it is made when it is looked at."""
+        return None if self._refusal is None else self._refusal()
+
+    @property
+    def ccei(self) -> float | None:
+        """The nearest double to the index, but below 1 where the index is."""
+        return None if self.efficiency is None else exact.nearest_double(self.efficiency)
+
+    @property
+    def own_money(self) -> bool:
+        """Whether its prices are intercepts exchanged, so that each of its rows has money of its own."""
+        return self._own.panel.own_money
+
+    @property
+    def table(self) -> Table:
+        """The unit's own table."""
+        return self._own.table()
+
+    @property
+    def verdict(self) -> Verdict | None:
+        """The verdicts with their certificate, by a call for this unit alone; None where it has a fault."""
+        if self._verdict is None and self.fault is None:
+            own = self._own.panel
+            self._verdict = analyse(self.table, exe=own.exe, wide=own.asked.wide)
+        return self._verdict
+
+    @property
+    def status(self) -> int:
+        """The program's status: 0 with verdicts, 4 with a fault."""
+        return 0 if self.fault is None else 4
+
+    @property
+    def message(self) -> str:
+        """Why there are no verdicts, or none of a test."""
+        if self.fault is not None:
+            return str(self.refusal)
+        why = {"homothetic": "withheld" if self.texts["homothetic"] == "withheld" else "", "quasilinear": OWN_MONEY if self.own_money else ""}
+        return "; ".join(f"{name}: {said}" for name, said in why.items() if said)
+
+    def count_own(self) -> None:
+        """Counts the record of a fault among the unit's own rows."""
+        if self.record is not None:
+            self.record = self._own.places.index(self.record - 1) + 1
+            self.texts["record"] = str(self.record)
+
+    def values(self) -> list[Any]:
+        """Returns what the columns behind the key have, as values of Python."""
+        return [getattr(self, name) for name in COLUMNS[1:]]
+
+    def __repr__(self) -> str:
+        told = [f"{name} {self.texts[name]}" for name in COLUMNS[3:] if self.texts[name]]
+        return f"{self.key!r}: {self.message if self.fault is not None else ' '.join(told)}"
+
+
+def _whole(text: str) -> int | None:
+    return int(text) if text else None
+
+
+def _fraction(text: str) -> Fraction | None:
+    return exact.fraction_read(text) if text else None
+
+
+def _number(text: str) -> float | None:
+    return float(text) if text else None
+
+
+class Units(list):
+    """What a call gives of the units of a panel, in the order in which their keys first come, and behind them the rows that have no
+    unit. `units` is what they are called."""
+
+    def __init__(self, by: Sequence[str], rows: Iterable[Any], units: str) -> None:
+        super().__init__(rows)
+        self.by = list(by)
+        self.units = units
+
+    def keys(self, row: Any) -> list[Any]:
+        return list(row.key) if len(self.by) > 1 else [row.key]
+
+    def unnamed(self) -> int:
+        """Returns how many rows have no unit."""
+        return sum(row.fault in OF_ID for row in self)
+
+    def faults(self) -> list[dict[str, Any]]:
+        """Returns the errors, the most frequent cause first: each `fault`, how many units have it, `count`, and the key and the message
+        of the first."""
+        first = {row.fault: row for row in reversed(self) if row.fault is not None}
+        counts = Counter(row.fault for row in self if row.fault is not None)
+        return [{"fault": it, "count": count, "key": first[it].key, "message": first[it].message} for it, count in counts.most_common()]
+
+    def head(self, what: str) -> str:
+        """Returns the first line that is said of a panel; `what` says what its units have."""
+        return f"panel of {len(self) - self.unnamed():,} {self.units} by {', '.join(map(repr, self.by))}, {what}"
+
+    def faults_said(self) -> list[str]:
+        return [f"{it['count']:,} with an error: {it['fault']}, the first {it['key']!r}" for it in self.faults()]
+
+    def said(self) -> list[str]:
+        raise NotImplementedError
+
+    def __repr__(self) -> str:
+        more = len(self) - SHOWN
+        rows = [repr(row).partition("\n")[0] for row in self[:SHOWN]]
+        return "\n".join([*self.said(), *rows, *([f".. and {more:,} more: .frame() and .records() have all"] if more > 0 else [])])
+
+    @staticmethod
+    def pandas() -> Any:
+        """Returns pandas, which has to be there; BadData says what to install where it is not."""
+        try:
+            import pandas
+        except ImportError as wrong:
+            raise BadData(NO_PANDAS) from wrong
+        return pandas
+
+
+class Panel(Units):
+    """The Rows of a panel, in the order in which their keys first come, and behind them the rows of the frame that have no unit. `asked`
+    names what was asked beside the verdicts, and `units` is what the units are called."""
+
+    def __init__(self, by: Sequence[str], rows: Iterable[Row], asked: Sequence[str] = (), units: str | None = None) -> None:
+        super().__init__(by, rows, of_words(units, by))
+        self.asked = list(asked)
+        self.numbers: str | None = None
+        self.offered: Offered | None = None
+
+    def __getitem__(self, at: Any) -> Any:
+        """Returns a row, or of a slice a panel of these rows."""
+        found = super().__getitem__(at)
+        if not isinstance(at, slice):
+            return found
+        part = Panel(self.by, found, self.asked, self.units)
+        part.numbers, part.offered = self.numbers, self.offered
+        return part
+
+    def said(self) -> list[str]:
+        """Returns what is said of the panel as a whole, in a few lines."""
+        own = [row for row in self if row.fault is None]
+        lines = [self.head(f"{len(own):,} with verdicts")]
+        if own:
+            index = [row.efficiency_floor for row in own if row.efficiency_floor is not None]
+            holds = sum(row.garp is True for row in own)
+            lines.append(f"garp holds {holds:,}, violated {len(own) - holds:,}; efficiency (CCEI) mean {fmean(index):.4f}, minimum {min(index):.6f}")
+        return [*lines, *self.faults_said(), *([str(self.offered)] if self.offered else []), *([f"numbers: {self.numbers}"] if self.numbers else [])]
+
+    def _repr_html_(self) -> str:
+        """Returns what a notebook shows: what is said of the panel, and its first rows as a table."""
+        names = [*self.by, *(name for name in COLUMNS[1:] if any(row.texts[name] for row in self[:SHOWN]))]
+        heads = "".join(f"<th>{escape(str(name))}</th>" for name in names)
+        rows = []
+        for row in self[:SHOWN]:
+            cells = [*map(str, self.keys(row)), *(row.texts[name] for name in names[len(self.by) :])]
+            rows.append("<tr>" + "".join(f"<td>{escape(cell)}</td>" for cell in cells) + "</tr>")
+        more = f"<p>.. and {len(self) - SHOWN:,} more</p>" if len(self) > SHOWN else ""
+        said = "<br>".join(map(escape, self.said()))
+        return f"<p>{said}</p><table><thead><tr>{heads}</tr></thead><tbody>{''.join(rows)}</tbody></table>{more}"
+
+    def names(self) -> list[str]:
+        """Returns the names of what a record has: the columns by which units are told apart, and those of each panel."""
+        return [*self.by, *COLUMNS[1:]]
+
+    def records(self) -> list[dict[str, Any]]:
+        """Returns a dictionary for each row: its key, and the values that a Row has under the names of the columns."""
+        return [dict(zip(self.names(), [*self.keys(row), *row.values()])) for row in self]
+
+    def csv(self) -> bytes:
+        """Returns the table as the call writes it, with the columns by which units are told apart in place of `household`."""
+        lines = [line_of(list(map(str, self.names())))]
+        for row in self:
+            keys = ["" if exact.is_missing(key) else id_text(key).strip(BLANKS) for key in self.keys(row)]
+            lines.append(line_of([*keys, *(row.texts[name] for name in COLUMNS[1:])]))
+        return "".join(lines).encode("utf-8", "surrogateescape")
+
+    def frame(self) -> Any:
+        """Returns the records as a frame of pandas, which has to be there; BadData says what to install where it is not.
+
+        Verdicts are of its type `boolean`, in which what is withheld is missing and never False; what ends in `_floor` is `Float64`;
+        fractions and faults are texts.
+        """
+        pandas = self.pandas()
+        columns = {name: [self.keys(row)[at] for row in self] for at, name in enumerate(self.by)}
+        made = {name: pandas.Series(values, dtype=None if values else object) for name, values in columns.items()}
+        for name in COLUMNS[1:]:
+            kind = KINDS[name]
+            values = [row.texts[name] or None if kind == "string" else getattr(row, name) for row in self]
+            made[name] = pandas.array(values, dtype=kind)
+        return pandas.DataFrame(made)
+
+    def to_stata(self, path: Any) -> None:
+        """Writes the frame as a file of Stata: verdicts as 0, 1 and missing, for every version of pandas."""
+        frame = self.frame()
+        for name, kind in frame.dtypes.items():
+            if str(kind) in ("boolean", "Float64", "Int64"):
+                frame[name] = frame[name].astype("Float64").to_numpy(dtype="float64", na_value=float("nan"))
+            elif str(kind) in ("string", "object"):
+                frame[name] = frame[name].fillna("").astype(str)
+        frame.to_stata(path, write_index=False)
+
+    def plot(self, ax: Any = None, **more: Any) -> Any:
+        """Draws the distribution of the efficiency index, beside that of random behaviour on the same budgets; returns the axes."""
+        from . import pictures
+
+        return pictures.of_panel(self, ax, **more)
+
+    def text(self, **more: Any) -> str:
+        """Returns a table of the panel for a paper, as plain text: N, the mean, the standard deviation and the quartiles of the CCEI, and
+        the shares at `thresholds`, as ("0.95", "0.90"). `units="subjects"` says what its units are called. Numbers are the nearest ones of
+        `digits` decimal places, 3 by default, of two the even one; but only 1 reads 1, and only 0 reads 0."""
+        from . import papers
+
+        return papers.text(self, **more)
+
+    def latex(self, **more: Any) -> str:
+        """Returns the table of `text` as LaTeX (with booktabs)."""
+        from . import papers
+
+        return papers.latex(self, **more)
+
+
+NO_PANDAS = "a frame needs the package pandas, which is not here: pip install pandas; .records() has the same without it, and .text() and .latex() too"
+KINDS = {
+    **dict.fromkeys(("garp", "attained", "homothetic", "quasilinear"), "boolean"),
+    **dict.fromkeys(("efficiency_floor", "pump_floor"), "Float64"),
+    **dict.fromkeys(("efficiency", "pump", "power", "fault"), "string"),
+    **dict.fromkeys(("observations", "goods", "record", "column"), "Int64"),
+}
+
+
