@@ -44,8 +44,8 @@ AreSpent steps = 2 * steps ≡ STEPS
 
 -- A verdict is withheld after so many steps. They are the looks of searches: of one that leaves out nothing, and of one
 -- in each of at most 65,536 rounds. Either all steps are spent, or there is no rational type, or else some search found
--- one: then a program over the types that were found was begun, and what it shows is no evidence that the checker takes
--- in the steps that are left, or it ended before its end, by its pivots, its rounds, or the width of its numbers.
+-- one. In the last case the program over the found types ended by its rounds, its pivots or the width of its numbers, or
+-- the checker does not take what it shows in the steps that are left: which of these, and when, is not stated here.
 pub record IsWithheldAfter (p : PatchList) (steps : ℕ) : Type 0 where
   pub searches : List (List (List ℕ))
   pub rounds : length searches ≤ 65537

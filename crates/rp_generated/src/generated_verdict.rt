@@ -57,9 +57,9 @@ fn if_taken(patches: &Patches, found: Option<RandomPart>, steps: u64) -> RandomP
 }
 
 /// Whether some mixture of rational types makes the choices, by types that are generated: a mixture; a partial one of
-/// the greatest share with weights of the patches; or, where neither is found, how many steps the search made, at most
-/// those of `rp_limits`. All rational types are meant, however many there are, and what is given says of persons what it
-/// does where all are listed.
+/// the greatest share with weights of the patches; or, where neither is found, how many steps the searches made, at most
+/// half of those of `rp_limits`. All rational types are meant, however many there are, and what is given says of persons
+/// what it does where all are listed.
 pub fn generated(alloc: Global, patches: &Patches) -> Result<RandomPart, NoMemory>
     ensures proves { IfOk result (ProvesRandom patches.now patches.now.total) }
     ensures share { IfOk result (ShowsShare patches.now) }
