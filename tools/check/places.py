@@ -117,6 +117,8 @@ def of_documents(facts):
         yield Place(page, "usage", {it["name"]: rf"^rp {quoted(it['usage'])}(?: >.*)?$"})
         yield Place(page, "sessions", {it["name"]: rf"^\$ \./rp {it['name']} "})
     yield from of_errors(facts, told, numbers)
+    yield Place("crates/rp_guide/src/texts.rt", "help pages", {it["name"]: rf'b"{it["name"]}",\s*b"usage: rp-wide {quoted(it["usage"])}\\n' for it in commands},
+                all_of(r'^ *b"(\w+)",$'))  # fmt: skip
     unsaid = [it["name"] for it in facts["limits"] if it["name"] not in {*LIMITS, *INNER}]
     yield Place("docs/reference/limits.md", "limits", {**said(facts, LIMITS), **{it: NEVER for it in unsaid}})
     for page, phrases in {"files": FILES_LIMITS, "certificate": CERTIFICATE_LIMITS, "rp-random": RANDOM_LIMITS}.items():

@@ -282,8 +282,40 @@ def lines():
     return sorted(set(begun) | set(verdicts()))
 
 
+# ---- hints
+
+
+# What a hint is also given for: a file that is not there, and a certificate that the checker accepts.
+BESIDE = {"Missing": "status", "Accepted": "check", "Nothing": "check"}
+
+
+def panel_faults():
+    """Returns the names of faults that panels alone have."""
+    whole = re.findall(r'^long_fault_text \(?long_fault\.(\w+)[^=]*= codes "(\w+)', text("rp_panel_run/specs/Told.antt"), re.M)
+    rows = re.findall(r'^fault_word \(?(\w+)[^=]*= codes "(\w+)"', text("rp_rows/specs/Faults.antt"), re.M)
+    return [name for _, name in whole + rows]
+
+
+def hints(refused, told, numbered):
+    """Returns the hint for each fault, reason and status but the first: what is wrong, and what to do."""
+    of = {it["name"]: "fault" for it in refused} | {it["name"]: "status" for it in numbered if it["number"]} | dict.fromkeys(told, "reason")
+    of = {**dict.fromkeys(panel_faults(), "fault"), **of, **BESIDE}
+    file = "rp_guide/src/hints.rt"
+    found = re.findall(r'\(\s*b"(\w+)",\s*b"([^"]+)",?\s*\)', text(file))
+    if len(found) != len(of) or {code for code, _ in found} != set(of):
+        raise Unread(f"crates/{file} has other codes than there are: {', '.join(sorted({code for code, _ in found} ^ set(of)))}")
+    return [dict(zip(("code", "of", "wrong", "do"), (code, of[code], *parted(own)))) for code, own in found]
+
+
+def parted(own):
+    """Returns the first sentence of a text, and the others."""
+    wrong, _, rest = own.partition(". ")
+    return (f"{wrong}." if rest else own), rest
+
+
 def read():
+    refused, told, numbered = faults(), reasons(), statuses()
     return {
-        "commands": commands(), "kinds": kinds(), "faults": faults(), "limits": limits(), "reasons": reasons(), "statuses": statuses(),
-        "certificates": items(), "verdicts": verdicts(), "lines": lines(),
+        "commands": commands(), "kinds": kinds(), "faults": refused, "limits": limits(), "reasons": told, "statuses": numbered,
+        "certificates": items(), "verdicts": verdicts(), "lines": lines(), "hints": hints(refused, told, numbered),
     }  # fmt: skip

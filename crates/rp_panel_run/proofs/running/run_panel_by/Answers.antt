@@ -3,7 +3,7 @@ use Rattle.rp_panel_run.specs.Endings.{IsUnread, RefusesWith}
 use Rattle.rp_panel_run.specs.Questions.{asking_in}
 use Rattle.rp_panel_run.proofs.EndLemmas.{done_unless_risen, never_answered, never_refused, never_unread}
 use Rattle.rp_panel_run.proofs.TurnLemmas.{asked_names, asked_turns, unasked_names, unasked_turns}
-use Rattle.rp_panel_run.proofs.running.run_panel.Goals as goal
+use Rattle.rp_panel_run.proofs.running.run_panel_by.Goals as goal
 
 pub returns-in_default-clause-turns : goal.returns-in_default-clause-turns
 returns-in_default-clause-turns g c = unasked_turns _ _ _
