@@ -1,0 +1,3 @@
+pub mod ViolationTests
+pub mod GroupSums
+pub mod KeptSound

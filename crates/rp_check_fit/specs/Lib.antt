@@ -1,0 +1,4 @@
+pub mod Groups
+pub mod KeptFailure
+pub mod KeptEvidence
+pub mod InnerGroups
