@@ -1,10 +1,10 @@
 -- Weights of groups, added as a loop goes.
 use Rattle.std.proofs.Common.{◌≡◌, ◌+◌, ◌*◌, ◌^◌, ◌<◌, ◌≤◌, ℕ, List, [], length, take, ap, arith, sym, ◌∙◌, if◌then◌else◌}
 use Rattle.std.proofs.lemmas.List.Sums.{sum_by_more}
-use Rattle.rp_check_fit.specs.Groups.{allowed_by, allowed_of, is_among, weight_on}
+use Rattle.rp_fit.specs.Groups.{allowed_by, allowed_of, is_among, weight_on}
 use Rattle.rp_check_fit.specs.KeptFailure.{group_at}
-use Rattle.rp_check_fit.specs.declared.kept.Group.{Group}
-use Rattle.rp_check_fit.specs.declared.kept.GroupKind.TheVariants.{Pairs}
+use Rattle.rp_fit.specs.declared.kept.Group.{Group}
+use Rattle.rp_fit.specs.declared.kept.GroupKind.TheVariants.{Pairs}
 
 -- a turn of the loop that adds the weight of a group, where it has the observation
 pub weight_more : (groups : List Group) (s k weight added new : ℕ) → k < length groups → added ≡ (if is_among (group_at groups k).members s then (group_at groups k).weight else 0) → added ≤ 2 ^ 32

@@ -19,13 +19,13 @@ use Rattle.rp_evidence.specs.declared.failure.Failure.{Failure}
 use Rattle.rp_evidence.proofs.Violations.{violation_leads}
 use Rattle.rp_fit.specs.Kept.{IsConsistent, IsHoutmanMaksIndex, IsSetOfObservations, LiesWithin, NoneKeepsMore}
 use Rattle.rp_fit.proofs.ConsistentSets.{consistent_by_ranks}
-use Rattle.rp_check_fit.specs.Groups.{AllContradict, AreOfKind, Contradict, IsSimpleViolation, allowed_by, allowed_of, is_among, weight_on}
-use Rattle.rp_check_fit.specs.KeptEvidence.{ProvesKept}
+use Rattle.rp_fit.specs.Groups.{AllContradict, AreOfKind, Contradict, IsSimpleViolation, allowed_by, allowed_of, is_among, weight_on}
+use Rattle.rp_fit.specs.KeptEvidence.{ProvesKept}
 use Rattle.rp_check_fit.specs.KeptFailure.{GroupsFail, KeptFails, group_at}
-use Rattle.rp_check_fit.specs.declared.kept.Group.{Group}
-use Rattle.rp_check_fit.specs.declared.kept.GroupKind.{GroupKind}
-use Rattle.rp_check_fit.specs.declared.kept.GroupKind.TheVariants.{Pairs, Cycle}
-use Rattle.rp_check_fit.specs.declared.kept.KeptPart.{KeptPart}
+use Rattle.rp_fit.specs.declared.kept.Group.{Group}
+use Rattle.rp_fit.specs.declared.kept.GroupKind.{GroupKind}
+use Rattle.rp_fit.specs.declared.kept.GroupKind.TheVariants.{Pairs, Cycle}
+use Rattle.rp_fit.specs.declared.kept.KeptPart.{KeptPart}
 
 -- ---- members
 

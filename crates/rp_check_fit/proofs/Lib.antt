@@ -1,3 +1,4 @@
 pub mod ViolationTests
 pub mod GroupSums
 pub mod KeptSound
+pub mod CountedPairs

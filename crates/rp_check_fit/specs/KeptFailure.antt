@@ -1,10 +1,10 @@
 -- When evidence for the most observations that are consistent fails (this program's own order of clauses; the index:
 -- Houtman and Maks 1985).
 use Rattle.std.specs.Prelude.{◌≡◌, ◌<◌, ◌≤◌, ◌+◌, ◌-◌, ◌/◌, ℕ, List, [], ◌∷◌, length, slice_index, slice_index_or}
-use Rattle.rp_check_fit.specs.Groups.{AreOfKind, allowed_by, weight_on}
-use Rattle.rp_check_fit.specs.declared.kept.Group.{Group}
-use Rattle.rp_check_fit.specs.declared.kept.GroupKind.TheVariants.{Pairs}
-use Rattle.rp_check_fit.specs.declared.kept.KeptPart.{KeptPart}
+use Rattle.rp_fit.specs.Groups.{AreOfKind, allowed_by, weight_on}
+use Rattle.rp_fit.specs.declared.kept.Group.{Group}
+use Rattle.rp_fit.specs.declared.kept.GroupKind.TheVariants.{Pairs}
+use Rattle.rp_fit.specs.declared.kept.KeptPart.{KeptPart}
 use Rattle.rp_evidence.specs.Clauses.{Finding, FirstBelow, FirstUnless, InOrder, Unless}
 use Rattle.rp_evidence.specs.Preference.{IsStrict, IsWeak}
 use Rattle.rp_evidence.specs.declared.failure.Reason.TheVariants.{Shape, Number, Order, Set, Dual, Bound, Least}

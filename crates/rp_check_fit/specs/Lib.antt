@@ -1,4 +1,4 @@
-pub mod Groups
 pub mod KeptFailure
-pub mod KeptEvidence
 pub mod InnerGroups
+pub mod Axioms
+pub mod ViolationsFailure

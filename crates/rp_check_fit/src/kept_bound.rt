@@ -1,15 +1,15 @@
 //! The clauses of the bound on the observations of consistent sets.
 ghost use Rattle.std.specs.Prelude.{◌≡◌, ◌*◌, ◌^◌, ◌<◌, ◌≤◌, ℕ, Ok, if◌then◌else◌, length};
-ghost use Rattle.rp_check_fit.specs.Groups.{allowed_by, allowed_of, is_among, weight_on};
+ghost use Rattle.rp_fit.specs.Groups.{allowed_by, allowed_of, is_among, weight_on};
 ghost use Rattle.rp_check_fit.specs.KeptFailure.{BoundFails, GroupsFail, group_at};
 ghost use Rattle.rp_evidence.specs.Clauses.{FirstUnless};
 ghost use Rattle.rp_limits.specs.declared.table.TheConstants.{RECORDS};
 ghost use Rattle.rp_table.specs.Cost.{cost_of};
 ghost use Rattle.rp_table.specs.Tables.{records_of};
 
-use crate::kept::{Group, GroupKind};
 use rp_clauses::input::Input;
 use rp_evidence::{Failure, Reason, fails};
+use rp_fit::{Group, GroupKind};
 use rp_limits::table::RECORDS;
 
 /// Checks the weights on each observation, and that the bound is what the groups allow.

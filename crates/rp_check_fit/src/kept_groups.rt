@@ -1,20 +1,19 @@
 //! The clauses of groups of observations of which a consistent set has few.
 ghost use Rattle.std.specs.Prelude.{◌+◌, ◌-◌, ◌<◌, ◌↔◌, ℕ, IsTrue, length, slice_index};
-ghost use Rattle.rp_check_fit.specs.Groups.{AllContradict, AreOfKind, Contradict, IsSimpleViolation};
-ghost use Rattle.rp_check_fit.specs.InnerGroups.{ArePlacesDistinct, ContradictsEarlier};
-ghost use Rattle.rp_check_fit.specs.InnerGroups.{IsUnlikeEarlier};
+ghost use Rattle.rp_fit.specs.Groups.{AllContradict, AreOfKind, Contradict, IsSimpleViolation};
+ghost use Rattle.rp_check_fit.specs.InnerGroups.{ContradictsEarlier};
 ghost use Rattle.rp_check_fit.specs.KeptFailure.{GroupFails, GroupsFail};
 ghost use Rattle.rp_evidence.specs.Garp.{IsViolation};
 ghost use Rattle.rp_evidence.specs.Preference.{IsStrict, IsWeak};
 ghost use Rattle.rp_table.specs.Cost.{cost_of};
 ghost use Rattle.rp_table.specs.Tables.{records_of};
 
-use crate::kept::{Group, GroupKind};
-use crate::steps::{is_strict, is_weak};
+use rp_check_walks::{are_distinct, is_strict, is_weak};
 use rp_clauses::input::Input;
 use rp_clauses::standard::WHOLE;
 use rp_clauses::walk::check_violation;
 use rp_evidence::{Failure, Reason, fails};
+use rp_fit::{Group, GroupKind};
 
 /// Checks the groups, each in turn.
 pub(crate) fn check_groups(input: &Input<'_>, groups: &[Group]) -> Result<(), Failure>
@@ -107,29 +106,4 @@ fn is_violation(input: &Input<'_>, walk: &[u32]) -> bool
         walk.now }
 {
     check_violation(input, WHOLE, walk).is_ok()
-}
-
-/// Whether no two entries but the last are the same.
-fn are_distinct(walk: &[u32]) -> bool
-    ensures { IsTrue result ↔ ArePlacesDistinct walk.now }
-{
-    for j in 1..walk.len() {
-        if !is_unlike_earlier(walk, j - 1) {
-            return false;
-        }
-    }
-    true
-}
-
-/// Whether the entry at place `j` is none of those before it.
-fn is_unlike_earlier(walk: &[u32], j: usize) -> bool
-    requires { j < length walk.now }
-    ensures { IsTrue result ↔ IsUnlikeEarlier walk.now j }
-{
-    for i in 0..j {
-        if walk[i] == walk[j] {
-            return false;
-        }
-    }
-    true
 }

@@ -6,7 +6,7 @@ ghost use Rattle.rp_evidence.specs.Preference.{IsStrict, IsWeak};
 ghost use Rattle.rp_table.specs.Cost.{cost_of};
 ghost use Rattle.rp_table.specs.Tables.{records_of};
 
-use crate::steps::{is_strict, is_weak};
+use rp_check_walks::{is_strict, is_weak};
 use rp_clauses::input::Input;
 use rp_evidence::{Failure, Reason, fails};
 

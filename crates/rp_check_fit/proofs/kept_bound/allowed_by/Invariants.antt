@@ -1,5 +1,5 @@
 use Rattle.std.proofs.Common.{◌≡◌, ◌≤◌, ◌*◌, ◌^◌, take}
-use Rattle.rp_check_fit.specs.Groups.{allowed_by}
+use Rattle.rp_fit.specs.Groups.{allowed_by}
 use Rattle.rp_check_fit.proofs.kept_bound.allowed_by.Given as goal
 
 abbrev pub invariant-loop-k : goal.invariant-loop-k

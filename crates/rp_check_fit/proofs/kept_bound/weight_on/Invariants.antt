@@ -1,5 +1,5 @@
 use Rattle.std.proofs.Common.{◌≡◌, ◌≤◌, ◌*◌, ◌^◌, take}
-use Rattle.rp_check_fit.specs.Groups.{weight_on}
+use Rattle.rp_fit.specs.Groups.{weight_on}
 use Rattle.rp_check_fit.proofs.kept_bound.weight_on.Given as goal
 
 abbrev pub invariant-loop-k : goal.invariant-loop-k

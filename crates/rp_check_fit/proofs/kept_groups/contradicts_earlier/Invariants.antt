@@ -1,5 +1,5 @@
 use Rattle.std.proofs.Common.{◌<◌, ℕ, slice_index}
-use Rattle.rp_check_fit.specs.Groups.{Contradict}
+use Rattle.rp_fit.specs.Groups.{Contradict}
 use Rattle.rp_table.specs.Cost.{cost_of}
 use Rattle.rp_check_fit.proofs.kept_groups.contradicts_earlier.Given as goal
 

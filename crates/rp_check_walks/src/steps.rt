@@ -7,7 +7,7 @@ ghost use Rattle.rp_table.specs.Tables.{records_of};
 use rp_clauses::input::Input;
 
 /// Whether `s` is weakly preferred to `t`.
-pub(crate) fn is_weak(input: &Input<'_>, s: u32, t: u32) -> bool
+pub fn is_weak(input: &Input<'_>, s: u32, t: u32) -> bool
     requires from { s < records_of input.now.table.now }
     requires to { t < records_of input.now.table.now }
     ensures { IsTrue result ↔ IsWeak (cost_of input.now.table.now) s t }
@@ -16,7 +16,7 @@ pub(crate) fn is_weak(input: &Input<'_>, s: u32, t: u32) -> bool
 }
 
 /// Whether `s` is strictly preferred to `t`.
-pub(crate) fn is_strict(input: &Input<'_>, s: u32, t: u32) -> bool
+pub fn is_strict(input: &Input<'_>, s: u32, t: u32) -> bool
     requires from { s < records_of input.now.table.now }
     requires to { t < records_of input.now.table.now }
     ensures { IsTrue result ↔ IsStrict (cost_of input.now.table.now) s t }

@@ -3,9 +3,9 @@
 use Rattle.std.specs.Prelude.{◌≡◌, ◌≢◌, ◌<◌, ◌≤◌, ◌+◌, ◌-◌, ◌*◌, ◌⊎◌, ◌==◌, ℕ, Bool, List, length, slice_index, sum_by}
 use Rattle.std.specs.Prelude.{if◌then◌else◌}
 use Rattle.std.specs.List.{list_any}
-use Rattle.rp_check_fit.specs.declared.kept.Group.{Group}
-use Rattle.rp_check_fit.specs.declared.kept.GroupKind.{GroupKind}
-use Rattle.rp_check_fit.specs.declared.kept.GroupKind.TheVariants.{Pairs, Cycle}
+use Rattle.rp_fit.specs.declared.kept.Group.{Group}
+use Rattle.rp_fit.specs.declared.kept.GroupKind.{GroupKind}
+use Rattle.rp_fit.specs.declared.kept.GroupKind.TheVariants.{Pairs, Cycle}
 use Rattle.rp_evidence.specs.Garp.{IsViolation}
 use Rattle.rp_evidence.specs.Preference.{IsStrict, IsWeak}
 

@@ -1,6 +1,6 @@
 -- What accepted evidence on consistent observations proves (the index: Houtman and Maks 1985).
 use Rattle.std.specs.Prelude.{◌≡◌, ◌≤◌, ℕ, length}
-use Rattle.rp_check_fit.specs.declared.kept.KeptPart.{KeptPart}
+use Rattle.rp_fit.specs.declared.kept.KeptPart.{KeptPart}
 use Rattle.rp_fit.specs.Kept.{IsConsistent, IsHoutmanMaksIndex, IsSetOfObservations, NoneKeepsMore}
 
 -- The kept observations are a consistent set, and no consistent set has more than the bound. Where the two meet, the
