@@ -72,5 +72,6 @@ pub fn run<D: Desk, O: Sink, E: Sink>(
         (D.faults desk.old) (D.faults desk.new) (O.faults out.old) (O.faults out.new)
         (E.faults err.old) (E.faults err.new) }
 {
-    run_edition::<AsStated, D, O, E>(alloc, words, desk, out, err)
+    let status = run_edition::<AsStated, D, O, E>(alloc, words, desk, out, err);
+    status
 }
