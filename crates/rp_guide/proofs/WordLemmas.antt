@@ -1,6 +1,7 @@
 -- Words at the front of a text, and texts behind a label.
 use Rattle.std.proofs.Common.{◌≡◌, ◌≤◌, ℕ, suc, Bool, true, false, List, [], ◌∷◌, ◌++◌, length, refl, take, ap, arith, append-nil}
 use Rattle.std.specs.Prelude.{◌==◌, ◌||◌, if◌then◌else◌}
+use Rattle.std.proofs.lemmas.Bool.{true≢false}
 use Rattle.rp_guide.specs.Codes.{first_word}
 use Rattle.rp_guide.specs.Hints.{labelled}
 
@@ -14,11 +15,7 @@ pub word_in_front : (text : List ℕ) → take (length (first_word text)) text �
 word_in_front [] = refl
 word_in_front (byte ∷ rest) = one_more ((byte == 32) || (byte == 10)) byte rest (word_in_front rest)
 
--- no hint, and a hint
-pub told_alone : (text label hint : List ℕ) → length hint ≡ 0 → text ++ [] ≡ text ++ labelled label hint
-told_alone text label [] none = refl
-told_alone text label (byte ∷ bytes) none = absurd (omega (arith, none))
-
-pub told_behind : (text label hint : List ℕ) → (length hint ≡ 0 → ⊥) → text ++ (label ++ (hint ++ (10 ∷ []))) ≡ text ++ labelled label hint
-told_behind text label [] some = absurd (some refl)
+-- a text, and a hint behind it
+pub told_behind : (text label hint : List ℕ) → (length hint == 0) ≡ false → text ++ (label ++ (hint ++ (10 ∷ []))) ≡ text ++ labelled label hint
+told_behind text label [] some = absurd (true≢false some)
 told_behind text label (byte ∷ bytes) some = refl

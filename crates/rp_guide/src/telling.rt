@@ -1,5 +1,5 @@
 //! Texts for standard error.
-ghost use Rattle.std.specs.Prelude.{◌≤◌, ◌++◌};
+ghost use Rattle.std.specs.Prelude.{◌≤◌, ◌++◌, ◌∷◌, []};
 ghost use Rattle.std.specs.List.{flat_map};
 ghost use Rattle.rp_guide.specs.Gains.{Gains, IsPageGiven};
 ghost use Rattle.rp_guide.specs.Hints.{hint_line, hint_text, labelled, note_line};
@@ -52,7 +52,7 @@ pub fn give_page<O: Sink, E: Sink>(text: &[u8], line: &[u8], out: &mut O, err: &
 }
 
 /// Writes a text, and then the hint for a code behind a label, where there is one.
-fn tell_labelled<'a, E: Sink>(err: &mut E, text: &'a [u8], label: &'a [u8], code: &[u8])
+fn tell_labelled<E: Sink>(err: &mut E, text: &[u8], label: &[u8], code: &[u8])
     ensures gains { Gains (E.written err.old) (E.written err.new)
         (E.faults err.old) (E.faults err.new)
         (text.now ++ labelled label.now (hint_text code.now)) }
@@ -63,6 +63,16 @@ fn tell_labelled<'a, E: Sink>(err: &mut E, text: &'a [u8], label: &'a [u8], code
         tell(err, &[text]);
         return;
     }
+    tell_line(err, text, label, hint);
+}
+
+/// Writes a text, and then a line of a label and a hint.
+fn tell_line<'a, E: Sink>(err: &mut E, text: &'a [u8], label: &'a [u8], hint: &'a [u8])
+    ensures gains { Gains (E.written err.old) (E.written err.new)
+        (E.faults err.old) (E.faults err.new)
+        (text.now ++ (label.now ++ (hint.now ++ (10 ∷ [])))) }
+    ensures never_falls { E.faults err.old ≤ E.faults err.new }
+{
     tell(err, &[text, label, hint, b"\n"]);
 }
 
