@@ -7,17 +7,19 @@ pub returns-in-Some-clause-page : goal.returns-in-Some-clause-page
 returns-in-Some-clause-page g c = λ text is.
     let asked : Some c.in-Some.text.now ≡ panel_page (map string_bytes c.args.words.now.items) = rw c.as_slice.ensures.value at c.in-Some.ensures in
     let same : c.in-Some.text.now ≡ text = cc in
-    subst (λ (t : List ℕ). GivesPage t c.answer_page.result _ _) same c.answer_page.ensures
-
-pub returns-clause-page : goal.returns-clause-page
-returns-clause-page g c = λ text is.
-    let none : None ≡ panel_page (map string_bytes c.args.words.now.items) = rw c.as_slice.ensures.value at c.in-None.ensures in
-    absurd cc
-
-pub returns-clause-nothing_read : goal.returns-clause-nothing_read
-returns-clause-nothing_read g c = λ text is.
-    let none : None ≡ panel_page (map string_bytes c.args.words.now.items) = rw c.as_slice.ensures.value at c.in-None.ensures in
-    absurd cc
+    subst (λ (t : List ℕ). GivesPage t c.answer_page.result
+    (record {
+      old = g.O.Sink.written c.args.out.now;
+      new = g.O.Sink.written c.answer_page.new.out;
+      before = g.O.Sink.faults c.args.out.now;
+      after = g.O.Sink.faults c.answer_page.new.out;
+    })
+    (record {
+      old = g.E.Sink.written c.args.err.now;
+      new = g.E.Sink.written c.answer_page.new.err;
+      before = g.E.Sink.faults c.args.err.now;
+      after = g.E.Sink.faults c.answer_page.new.err;
+    })) same c.answer_page.ensures
 
 pub returns-in-Some-clause-usage : goal.returns-in-Some-clause-usage
 returns-in-Some-clause-usage g c = λ none.
