@@ -25,15 +25,3 @@ returns-in-Ok g c =
       faults_of_out = c.in-Ok.ensures.never_falls;
       faults_of_err = c.tell_note.ensures.never_falls;
     }
-
-pub returns : goal.returns
-returns g c =
-    let ends : IsEnd c.args.gathered.now.status = c.is_end-ends.ensures.yes c.if-not-ends.false in
-    record {
-      either = inr (ends, refl);
-      whole = λ end is. absurd (subst IsEnd (sym is) ends);
-      part = λ end is. (rw c.as_slice-text.ensures.value at c.in-Err.ensures.prefix, c.in-Err.ensures.fault_counted, c.tell_with_hint-in-Err.ensures.gains);
-      faulted = λ no. absurd (no ends);
-      faults_of_out = c.in-Err.ensures.never_falls;
-      faults_of_err = c.tell_with_hint-in-Err.ensures.never_falls;
-    }

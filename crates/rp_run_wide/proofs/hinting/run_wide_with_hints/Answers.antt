@@ -9,10 +9,3 @@ returns-in-Ok g c =
     delivered (map string_bytes c.args.words.now.items) _ gathered.status gathered.text.items gathered.told.items
     (record { shapes = own.shapes; turns = own.turns; names = own.names; bytes_stay = own.bytes_stay; faults_of_files = own.faults_of_files })
     _ _ c.deliver.result own.ran c.deliver.ensures
-
-pub returns : goal.returns
-returns g c =
-    let own = c.in-Err.ensures in
-    out_of_memory (map string_bytes c.args.words.now.items) _ _ _
-    (record { shapes = own.shapes; turns = own.turns; names = own.names; bytes_stay = own.bytes_stay; faults_of_files = own.faults_of_files })
-    (λ w is. is) refl c.tell_with_hint.ensures.gains c.tell_with_hint.ensures.never_falls
