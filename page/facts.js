@@ -25,7 +25,8 @@ export function sentenceOf(of, code) {
   const it = FACTS.hints.find((one) => one.of === of && one.code === code);
   if (!it) return "";
   const said = `${it.wrong} ${it.do}`.trim();
-  return said.replace(/Use --per (\d+)/, "Give $1 as the number of units").replace(/--id NAME; without[^.]*/, "its role");
+  const asked = said.replace(/Use --per (\d+)/, "Give $1 as the number of units");
+  return asked.replace(/--id NAME; without[^.]*/, "its role");
 }
 
 /** What units are called, by the name of the column that tells them apart: subjects by subject, or by subject_id. */

@@ -209,7 +209,8 @@ async function answerPanel(slot, own) {
   });
   const waited = `in ${((performance.now() - began) / 1000).toFixed(1)} s`;
   if (isWhole) {
-    shows.tell(`${households.length} ${called.units} and ${panel.random.length} random behaviours ${waited}: answered.`);
+    const counts = `${households.length} ${called.units} and ${panel.random.length} random behaviours`;
+    shows.tell(`${counts} ${waited}: answered.`);
   }
   panel.show(true);
   if (households.length) shows.questions(...panelQuestions(client, households, shows));

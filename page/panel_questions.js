@@ -93,15 +93,17 @@ function panelQuestion(client, households, kind, says, field, { working, progres
       rows.find((row) => row[1] !== "0"),
     ];
     const first = refused ? ` The first with an error is ${refused[0]}: ${refused.at(-1)}` : "";
+    const names = [called.name, ...BOUND_COLUMNS.slice(1)];
     const keep = button(
       "Keep the bounds as CSV",
-      () => keepFile(`${kind}.csv`, writeRecords([[called.name, ...BOUND_COLUMNS.slice(1)], ...rows.map(forSheet)]), "text/csv"),
+      () => keepFile(`${kind}.csv`, writeRecords([names, ...rows.map(forSheet)]), "text/csv"),
     );
     place.replaceChildren(
       make(
         "p",
         {
-          textContent: `${done} of ${households.length} ${called.units} done; ${bounded.size} of them have bounds.${first}`,
+          textContent:
+            `${done} of ${households.length} ${called.units} done; ${bounded.size} of them have bounds.${first}`,
         },
       ),
       keep,

@@ -233,7 +233,7 @@ function cumulative(values, x, y) {
   return pathOf(points);
 }
 
-/** The share of units, which are called so, with at most each index, beside that of random behaviour on the same budgets. */
+/** The share of units, which are called so, with at most each index, beside that of random behaviour. */
 export function indexPicture(people, random, units = "units") {
   const beside = random.length ? `, beside ${random.length} tables of random behaviour on the same budgets` : "";
   const wide = widthHere();

@@ -199,7 +199,8 @@ export function sumSentences(cycle, table) {
 /** What each fault means, and what to do. */
 export function meansOf(fault) {
   if (fault === "TooManyRecords") {
-    return `${sentenceOf("fault", fault)} If the rows are those of many units, choose the column that tells them apart.`;
+    const also = "If the rows are those of many units, choose the column that tells them apart.";
+    return `${sentenceOf("fault", fault)} ${also}`;
   }
   return sentenceOf("fault", fault);
 }

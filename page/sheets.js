@@ -446,7 +446,8 @@ export function lacksOf(mapping, header) {
       "it for the label, or leave it out. If it tells units apart, each has one record, which can violate nothing."
     );
   }
-  if (mapping.roles.filter((it) => it.role === "household").length > 1) return "Two columns are the subject or household.";
+  const ids = mapping.roles.filter((it) => it.role === "household");
+  if (ids.length > 1) return "Two columns are the subject or household.";
   const names = mapping.names(header).filter(Boolean);
   const twice = names.find((it, at) => names.indexOf(it) !== at);
   if (twice) return `Two columns are ${twice}.`;

@@ -4,6 +4,7 @@ _rp() {
   COMPREPLY=()
   if [ "$COMP_CWORD" -eq 1 ]; then
     mapfile -t COMPREPLY < <(compgen -W "pairs analyse certify check demand welfare utility random checkrandom patches trial menus pump cost power" -- "$word")
+    case ${COMP_WORDS[0]} in *rp-wide) mapfile -t -O "${#COMPREPLY[@]}" COMPREPLY < <(compgen -W "--help --version" -- "$word") ;; esac
     return
   fi
   case ${COMP_WORDS[1]} in
@@ -12,6 +13,7 @@ _rp() {
     checkrandom | patches | menus) options="--per" ;;
     trial) return ;;
   esac
+  case ${COMP_WORDS[0]} in *rp-wide) options="$options --help" ;; esac
   if [ "$before" = --per ]; then
     return
   elif [[ $word == -* ]]; then
@@ -26,8 +28,8 @@ _rp_panel() {
   local word=${COMP_WORDS[COMP_CWORD]} before=${COMP_WORDS[COMP_CWORD - 1]}
   COMPREPLY=()
   if [[ $word == -* ]]; then
-    mapfile -t COMPREPLY < <(compgen -W "--id --keep --pump --power --wide --demand --welfare" -- "$word")
-  elif [ "$COMP_CWORD" -eq 1 ] || [ "$before" = --demand ] || [ "$before" = --welfare ]; then
+    mapfile -t COMPREPLY < <(compgen -W "--id --keep --pump --power --wide --demand --welfare --help --version" -- "$word")
+  elif [[ $before != --id && $before != --keep && $before != --power ]]; then
     compopt -o filenames 2>/dev/null
     mapfile -t COMPREPLY < <(compgen -f -- "$word")
   fi

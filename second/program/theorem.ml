@@ -76,18 +76,15 @@ let own = "(table_choices observed (by_own observed))"
 let all = "(table_choices observed (full observed))"
 
 let demanded name p m bounds =
-  let about good bound which value (of_consumers, of_utilities) =
-    let stated who n path =
+  let about good bound which value step =
+    let stated who n side =
       (sprintf "%s_good_%d_%s_%s" name (good + 1) bound n,
        sprintf "%s (%s observed %s %s) %d %s" which who (numbers p) (number m) good (fraction value),
-       sprintf path (sprintf "(proj2 (proj2 (proj2 it)) %d%%nat _ _ eq_refl)" good)) in
-    [ stated "bought_by_some" "of_consumers" of_consumers; stated "bought_by_utility" "of_utilities" of_utilities ] in
-  let bound good which_bound which value steps =
-    match value with Some v -> about good which_bound which v steps | None -> [] in
+       sprintf "%s (proj2 (proj2 (proj2 it)) %d%%nat _ _ _ eq_refl (%s eq_refl))" step good side) in
+    [ stated "bought_by_some" "of_consumers" "or_introl"; stated "bought_by_utility" "of_utilities" "or_intror" ] in
   List.concat (List.mapi (fun good (lower, upper) ->
-      bound good "lower" "infimum_of" lower (format_of_string "proj1 %s", format_of_string "proj1 (proj2 %s)")
-      @ bound good "upper" "supremum_of" upper
-          (format_of_string "proj1 (proj2 (proj2 %s))", format_of_string "proj2 (proj2 (proj2 %s))"))
+      (match lower with Some v -> about good "lower" "infimum_of" v "proj1" | None -> [])
+      @ (match upper with Some v -> about good "upper" "supremum_of" v "proj2" | None -> []))
     bounds)
 
 let stated claim =
@@ -154,42 +151,68 @@ let stated claim =
           | None -> []
           | Some v ->
               [ ("welfare_lower_bound",
-                 consumer (sprintf "forall x, bundle %s x -> prefers x (whole (bought observed %d)) -> (%s <= costs_at %s x)%%Q"
+                 consumer (sprintf "forall x, bundle %s x -> prefers x (whole (bought observed %d)) -> Qle %s (costs_at %s x)"
                    goods t (fraction v) p),
                  "fun prefers h w r => proj1 (proj2 (proj2 it) prefers h w r)") ])
   | WelfareViolated -> [ ("welfare_no_consumer", sprintf "irrational %s %s" goods all, "it") ]
   | Nothing -> []
 
-(* What a claim states of people over every ordered field. *)
+(* What a claim states of people over every ordered field, and how it follows. *)
 let stated_over claim =
   let held = "(held_over K (by_own observed))" and spent = "(spent_over K observed)" in
   let some = sprintf "rationalizable_over K observed %s" and none = sprintf "irrational_over K observed %s" in
+  let wants = sprintf "monotone_over K %s prefers \\/ nonsatiated_over K %s prefers" goods goods in
+  let consumer body =
+    sprintf "forall prefers, preference_over K %s prefers ->\n    %s ->\n    rationalizes_over K observed %s prefers ->%s"
+      goods wants spent body in
   match claim with
-  | GarpHolds -> [ ("some_consumer_over", some held) ]
-  | GarpViolated -> [ ("no_consumer_over", none held) ]
+  | GarpHolds -> [ ("some_consumer_over", some held, "it") ]
+  | GarpViolated -> [ ("no_consumer_over", none held, "it") ]
   | AfriatNumbers (u, l) ->
       let u = folded "      " (List.map number u) and l = folded "      " (List.map number l) in
       [ ("utility_over",
          sprintf "exists u, least_allowed_over K observed (by_own observed)\n    %s\n    %s u /\\\n    increasing_over K %s u /\\ concave_over K %s u /\\ rationalizes_over K observed %s (by_utility_over K u)"
-           u l goods goods held) ]
-  | NoAfriatNumbers -> [ ("afriat_no_consumer_over", none held) ]
-  | EfficiencyIs (e, attained) -> [ ("efficiency_over", sprintf "claim_over K observed (EfficiencyIs %s %b)" (fraction e) attained) ]
+           u l goods goods held, "it") ]
+  | NoAfriatNumbers -> [ ("afriat_no_consumer_over", none held, "it") ]
+  | EfficiencyIs (e, attained) ->
+      [ ("efficiency_over", sprintf "claim_over K observed (EfficiencyIs %s %b)" (fraction e) attained, "it") ]
   | HomotheticHolds ->
       [ ("homogeneous_utility_over",
          sprintf "exists u, increasing_over K %s u /\\ concave_over K %s u /\\ homogeneous_over K %s u /\\\n    rationalizes_over K observed %s (by_utility_over K u)"
-           goods goods goods spent) ]
+           goods goods goods spent, "it") ]
   | HomotheticViolated ->
       [ ("no_homothetic_consumer_over",
-         sprintf "forall prefers, preference_over K %s prefers -> homothetic_over K %s prefers ->\n    monotone_over K %s prefers \\/ nonsatiated_over K %s prefers -> ~ rationalizes_over K observed %s prefers"
-           goods goods goods goods spent) ]
+         sprintf "forall prefers, preference_over K %s prefers -> homothetic_over K %s prefers ->\n    %s -> ~ rationalizes_over K observed %s prefers"
+           goods goods wants spent, "it") ]
   | QuasilinearHolds ->
       [ ("worth_in_money_over",
-         sprintf "exists v, increasing_over K %s v /\\ concave_over K %s v /\\ worth_over K observed v" goods goods) ]
-  | QuasilinearViolated -> [ ("no_worth_in_money_over", "forall v, ~ worth_over K observed v") ]
-  | DemandBounds _ -> [ ("demand_some_consumer_over", some spent) ]
-  | WelfareBounds _ -> [ ("welfare_some_consumer_over", some spent) ]
-  | DemandViolated -> [ ("demand_no_consumer_over", none spent) ]
-  | WelfareViolated -> [ ("welfare_no_consumer_over", none spent) ]
+         sprintf "exists v, increasing_over K %s v /\\ concave_over K %s v /\\ worth_over K observed v" goods goods, "it") ]
+  | QuasilinearViolated -> [ ("no_worth_in_money_over", "forall v, ~ worth_over K observed v", "it") ]
+  | DemandBounds (p, m, bounds) ->
+      let at = sprintf "%s %s" (numbers p) (number m) in
+      let about good bound which value step =
+        let stated who n side =
+          (sprintf "demand_good_%d_%s_%s_over" (good + 1) bound n,
+           sprintf "%s K (%s K observed %s) %d (fraction_over K %s)" which who at good (fraction value),
+           sprintf "%s (proj2 (proj2 it) %d%%nat _ _ _ eq_refl (%s eq_refl))" step good side) in
+        [ stated "bought_by_some_over" "of_consumers" "or_introl"; stated "bought_by_utility_over" "of_utilities" "or_intror" ] in
+      ("demand_some_consumer_over", sprintf "exists x, bought_by_utility_over K observed %s x" at, "proj1 (proj2 it)")
+      :: List.concat (List.mapi (fun good (lower, upper) ->
+             (match lower with Some v -> about good "lower" "infimum_over" v "proj1" | None -> [])
+             @ (match upper with Some v -> about good "upper" "supremum_over" v "proj2" | None -> []))
+           bounds)
+  | WelfareBounds (p, t, lower, _, s) ->
+      ("welfare_upper_bound_over", consumer (sprintf " prefers (bought_over K observed %d) (bought_over K observed %d)" s t),
+       "fun prefers h w r => proj2 (proj2 it prefers h w r)")
+      :: (match lower with
+          | None -> []
+          | Some v ->
+              [ ("welfare_lower_bound_over",
+                 consumer (sprintf "\n    forall x, bundle_over K %s x -> prefers x (bought_over K observed %d) ->\n    at_most K (fraction_over K %s) (costs_over K %s x)"
+                   goods t (fraction v) (numbers p)),
+                 "fun prefers h w r => proj1 (proj2 it prefers h w r)") ])
+  | DemandViolated -> [ ("demand_no_consumer_over", none spent, "it") ]
+  | WelfareViolated -> [ ("welfare_no_consumer_over", none spent, "it") ]
   | Nothing -> []
 
 (* What stands at the head of a file of theorems, and its comments. *)
@@ -259,12 +282,12 @@ let write ~table_name ~table_text ~certificate_name ~certificate_text tb claims 
   say "(* What they say of people whose goods are divided as any ordered field has it. *)";
   let over = ref [] in
   List.iteri (fun k claim ->
-      List.iter (fun (name, statement) ->
+      List.iter (fun (name, statement, proof) ->
           let name = fresh name in
           names := name :: !names;
           over := (name ^ " reals") :: !over;
           say "Theorem %s : forall K, %s." name statement;
-          say "Proof. intros K. exact (judge_claim_over judged %d%%nat eq_refl K). Qed.\n" k)
+          say "Proof. intros K. pose (it := judge_claim_over judged %d%%nat eq_refl K). exact (%s). Qed.\n" k proof)
         (stated_over claim))
     claims;
   foot out !names !over;

@@ -20,6 +20,7 @@ VERSIONS = {
     "clients/r/revealed/inst/CITATION": r'"(\d+(?:\.\d+)+)"',
     "clients/r/revealed/man/rp_program.Rd": RELEASE,
     "clients/stata/rptest.ado": r"^\*! version (\S+)",
+    "crates/rp_guide/src/texts.rt": r'b"rp-(?:wide|panel) (\d+(?:\.\d+)+)\\n"',
 }
 
 

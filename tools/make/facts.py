@@ -176,7 +176,7 @@ def faults():
         if places not in one["places"]:
             one["places"].append(places)
 
-    source = text("rp_run/src/faults.rt")
+    source = text("rp_commands/src/faults.rt")
     for enum, file, of in (
         ("TableFault", "rp_sheet/src/fault.rt", "numbers"),
         ("MenuFault", "rp_menu/src/fault.rt", "menus"),
@@ -187,7 +187,7 @@ def faults():
             rf'{enum}::(\w+)(?: \{{[^}}]*\}})? =>\s*\{{?\s*told\(b"(\w+)", Place::(\w+)', source))  # fmt: skip
         untold = set(re.findall(rf"{enum}::(\w+) => None", source))
         if set(told) | untold != set(says):
-            raise Unread(f"crates/rp_run/src/faults.rt does not tell each {enum}")
+            raise Unread(f"crates/rp_commands/src/faults.rt does not tell each {enum}")
         for it, (name, place) in told.items():
             add(name, of, PLACES[place], says[it])
     add_refusals(add)
@@ -197,13 +197,13 @@ def faults():
 def add_refusals(add):
     """Adds what is told beside the faults of files: of a file as a whole, of patches, of rational types, and of units."""
     for file, of, says in (
-        ("rp_run/src/files.rt", "file", "The file has more bytes than are read."),
-        ("rp_run/src/tables.rt", "table", "The table has levels of observations, and the command does not take them."),
+        ("rp_commands/src/files.rt", "file", "The file has more bytes than are read."),
+        ("rp_commands/src/tables.rt", "table", "The table has levels of observations, and the command does not take them."),
     ):
         for name in dict.fromkeys(re.findall(r'refused\(alloc, file, b"(\w+)"\)', text(file))):
             add(name, of, [], says)
     says = {**variants("rp_patch/src/fault.rt", "PatchFault"), **variants("rp_types/src/fault.rt", "TypesFault")}
-    for file, of in (("rp_run/src/patches.rt", "choices"), ("rp_run/src/units.rt", "menus")):
+    for file, of in (("rp_commands/src/patches.rt", "choices"), ("rp_commands/src/units.rt", "menus")):
         for name, place in re.findall(r'b"rp: (\w+)(?: (\w+) |\\n)"', text(file)):
             add(name, of, [place] if place else [], says[name])
 
@@ -282,8 +282,40 @@ def lines():
     return sorted(set(begun) | set(verdicts()))
 
 
+# ---- hints
+
+
+# What a hint is also given for: a file that is not there, and a certificate that the checker accepts.
+BESIDE = {"Missing": "status", "Accepted": "check", "Nothing": "check"}
+
+
+def panel_faults():
+    """Returns the names of faults that panels alone have."""
+    whole = re.findall(r'^long_fault_text \(?long_fault\.(\w+)[^=]*= codes "(\w+)', text("rp_panel_run/specs/Told.antt"), re.M)
+    rows = re.findall(r'^fault_word \(?(\w+)[^=]*= codes "(\w+)"', text("rp_rows/specs/Faults.antt"), re.M)
+    return [name for _, name in whole + rows]
+
+
+def hints(refused, told, numbered):
+    """Returns the hint for each fault, reason and status but the first: what is wrong, and what to do."""
+    of = {it["name"]: "fault" for it in refused} | {it["name"]: "status" for it in numbered if it["number"]} | dict.fromkeys(told, "reason")
+    of = {**dict.fromkeys(panel_faults(), "fault"), **of, **BESIDE}
+    file = "rp_guide/src/hints.rt"
+    found = re.findall(r'\(\s*b"(\w+)",\s*b"([^"]+)",?\s*\)', text(file))
+    if len(found) != len(of) or {code for code, _ in found} != set(of):
+        raise Unread(f"crates/{file} has other codes than there are: {', '.join(sorted({code for code, _ in found} ^ set(of)))}")
+    return [dict(zip(("code", "of", "wrong", "do"), (code, of[code], *parted(own)))) for code, own in found]
+
+
+def parted(own):
+    """Returns the first sentence of a text, and the others."""
+    wrong, _, rest = own.partition(". ")
+    return (f"{wrong}." if rest else own), rest
+
+
 def read():
+    refused, told, numbered = faults(), reasons(), statuses()
     return {
-        "commands": commands(), "kinds": kinds(), "faults": faults(), "limits": limits(), "reasons": reasons(), "statuses": statuses(),
-        "certificates": items(), "verdicts": verdicts(), "lines": lines(),
+        "commands": commands(), "kinds": kinds(), "faults": refused, "limits": limits(), "reasons": told, "statuses": numbered,
+        "certificates": items(), "verdicts": verdicts(), "lines": lines(), "hints": hints(refused, told, numbered),
     }  # fmt: skip

@@ -58,7 +58,7 @@ function said = rp_sentence(fault)
     case 'TooManyPatches'
       said = 'The budgets up to this one have too many patches. Use fewer budgets; rp-wide takes 256 patches, and rp takes 48.';
     case 'NeedUnit'
-      said = 'The common denominator of the shares is above 1000000000. Use ''Per'', 10000; the result is then about the rounded shares.';
+      said = 'The common denominator of the shares is above 1000000000. Use ''Per'', 10000: the result is about the rounded shares.';
     case 'TooManyCombinations'
       said = 'The patches of the budgets have too many combinations to list. Use rp-wide, which does not list them, or fewer budgets.';
     case 'TooManyTypes'

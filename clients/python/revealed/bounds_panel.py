@@ -14,7 +14,8 @@ from .answers import bounds_record
 from .faults import BadData, Refused, Unreadable
 from .frames import Frame
 from .long_call import LONG, OF_ID, Asked, line_of, rows_of
-from .panels import HOUSEHOLD, LongFrame, Units, bar_of, of_words, processors, stop_where_all_are_refused, taken_as_it_is
+from .panel_results import Units, of_words
+from .panels import HOUSEHOLD, LongFrame, bar_of, processors, stop_where_all_are_refused, taken_as_it_is
 from .tables import Forms, Sheet, beside, forms_of, takes_places
 
 NEW = "new.csv"
@@ -180,7 +181,7 @@ class BoundsFrame(LongFrame):
         if new is None:
             raise BadData("there are no new prices: give the argument new")
         self.question = question
-        self.new: Sheet = beside(self, new, "p_", "m" if question == "demand" else None, m, forms)
+        self.new: Sheet = beside(self.goods, new, "p_", "m" if question == "demand" else None, m, forms)
 
     def answer(self, block: Sequence[Any], run: program.Runs, path: str) -> list[Any]:
         """Returns the bounds of the units of a block."""

@@ -43,9 +43,7 @@ def certify(p: Any, q: Any = None, *, levels: Any = None, decimals: Any = None, 
 
 
 @takes_places
-def pairs(
-    p: Any, q: Any = None, *, levels: Any = None, decimals: Any = None, numbers: Any = "shortest", exe: Any = None
-) -> tuple[Any, Any] | None:
+def pairs(p: Any, q: Any = None, *, levels: Any = None, decimals: Any = None, numbers: Any = "shortest", exe: Any = None) -> tuple[Any, Any] | None:
     """Returns the labels of the first two rows that contradict each other, the one weakly preferred to the other and that strictly
     to it; None where no two do. It is a quick look: longer cycles are seen by `analyse`."""
     own = table(p, q, decimals=decimals, numbers=numbers, levels=levels)
@@ -127,9 +125,7 @@ def welfare(
 
 
 @takes_places
-def utility(
-    p: Any, q: Any = None, bundles: Any = None, *, levels: Any = None, decimals: Any = None, numbers: Any = "shortest", exe: Any = None
-) -> Answers:
+def utility(p: Any, q: Any = None, bundles: Any = None, *, levels: Any = None, decimals: Any = None, numbers: Any = "shortest", exe: Any = None) -> Answers:
     """Returns the utility of each bundle under the Verdict's Afriat numbers, in their scale: money where lambda is 1."""
     own = table(p, q, decimals=decimals, numbers=numbers, levels=levels)
     sheet = _new(own, bundles, "q_", forms=forms_of(decimals, numbers))
@@ -140,9 +136,7 @@ def utility(
 
 
 @takes_places
-def cost(
-    technology: Any, asked: Any = None, *, decimals: Any = None, numbers: Any = "shortest", exe: Any = None, wide: bool = True
-) -> CostMinimisation:
+def cost(technology: Any, asked: Any = None, *, decimals: Any = None, numbers: Any = "shortest", exe: Any = None, wide: bool = True) -> CostMinimisation:
     """Returns whether a firm minimises its cost and maximises its profit, and what outputs cost at new prices of the inputs.
 
     The technology is a frame with `w_NAME` and `x_NAME` for each input, its price and how much of it was used, `y`, the output,
@@ -176,9 +170,7 @@ def random(
 
 
 @takes_places
-def patches(
-    budgets: Any, choices: Any, per: Any = None, *, decimals: Any = None, numbers: Any = "shortest", exe: Any = None, wide: bool = True
-) -> list[Patch]:
+def patches(budgets: Any, choices: Any, per: Any = None, *, decimals: Any = None, numbers: Any = "shortest", exe: Any = None, wide: bool = True) -> list[Patch]:
     """Returns the patches that choices from budgets fall in: of each its budget, its share of that budget's choices, and the side of
     every budget on which it lies. Budgets, choices, `per` and `wide` are those of `random`, and the patches have its numbers."""
     own = Choices(budgets, choices, per, forms_of(decimals, numbers))
@@ -292,7 +284,7 @@ def _stated(given: program.Given) -> bytes | None:
 def _new(own: Table, data: Any, prefix: str, more: str | None = None, values: Any = None, forms: Forms = DEFAULT) -> Sheet:
     if data is None:
         raise BadData("there are no new prices or bundles")
-    return beside(own, data, prefix, more, values, forms)
+    return beside(own.goods, data, prefix, more, values, forms)
 
 
 def _units(per: Any) -> list[str]:

@@ -298,5 +298,3 @@ KINDS = {
     **dict.fromkeys(("efficiency", "pump", "power", "fault"), "string"),
     **dict.fromkeys(("observations", "goods", "record", "column"), "Int64"),
 }
-
-

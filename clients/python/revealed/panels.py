@@ -17,7 +17,7 @@ from .faults import AllRefused, BadData, NoProgram, Pooled, Refused, WrongColumn
 from .frames import Frame, near, own_labels, prices_of, values_of
 from .offered import Offered, spent
 from .long_call import BLANKS, COLUMNS, DECIDING, ID_BYTES, LONG, Asked, answered, in_turn
-from .panel_results import KINDS, Panel, Row, Units, id_text, of_words
+from .panel_results import KINDS, Panel, Row, Units, id_text
 from .tables import OWN_MONEY, Forms, Sheet, Table, forms_of, takes_places, thousandths
 
 __all__ = ["KINDS", "Household", "LongFrame", "Panel", "Row", "Units", "answers", "of_tables", "panel"]

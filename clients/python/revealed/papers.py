@@ -14,6 +14,7 @@ from .long_call import OF_ID
 from .program import whole
 from .tables import OWN_MONEY
 
+
 def share(part: int, whole: int) -> str:
     return f"{part} of {whole} ({100 * part / whole:.1f}%)" if whole else "none"
 

@@ -329,7 +329,7 @@ def _goods(frame: Frame, prefix: str) -> dict[str, Any]:
 # ---- what stands beside a table
 
 
-def beside(table: Table, data: Any, prefix: str, more: str | None = None, values: Any = None, forms: Forms = DEFAULT) -> Sheet:
+def beside(goods: Sequence[str], data: Any, prefix: str, more: str | None = None, values: Any = None, forms: Forms = DEFAULT) -> Sheet:
     """Returns new prices (`p_`) or bundles (`q_`) of a table's goods, and where `more` names one a column more.
 
     The data are a frame, which may have that column too, or rows, or one row; else its values are one for each row or one
@@ -343,11 +343,11 @@ def beside(table: Table, data: Any, prefix: str, more: str | None = None, values
         values = frame.columns.get(more) if values is None else values
     else:
         rows = rows_of(data if _has_rows(data) else [data], "new")
-        header, labels = [prefix + good for good in table.goods], list(range(1, len(rows) + 1))
+        header, labels = [prefix + good for good in goods], list(range(1, len(rows) + 1))
         if any(len(row) != len(header) for row in rows):
             raise BadData(f"each row has a number for each of the {len(header)} goods")
     kinds, asked = [PRICES if prefix == "p_" else QUANTITIES] * len(header), [own] * len(header)
-    wanted = ", ".join([*(prefix + good for good in table.goods), *([more] if more else [])])
+    wanted = ", ".join([*(prefix + good for good in goods), *([more] if more else [])])
     if more is not None and values is not None:
         values = values_of(values, len(rows), more)
         header, rows = [*header, more], [[*row, value] for row, value in zip(rows, values)]

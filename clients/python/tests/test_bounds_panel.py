@@ -5,7 +5,6 @@ from fractions import Fraction
 
 import revealed
 from revealed import AllRefused, BadData, Refused, program
-from test_refusals import calls_of
 
 # Two purchases that contradict each other, two that do not, and a price of 0.
 D = {"subject": ["a", "a", "b", "b", "c"], "p_x": [1, 2, 1, 2, 0], "p_y": [2, 1, 2, 1, 1], "q_x": [1, 2, 2, 1, 1], "q_y": [2, 1, 1, 2, 1]}
@@ -43,7 +42,10 @@ class Bounds(unittest.TestCase):
         lines = found.csv().decode().splitlines()
         self.assertEqual(lines[0], "subject,budget,good,garp,lower,upper,lower_exact,upper_exact,reason,fault")
         self.assertEqual(lines[2], "b,1,x,True,1.0,2.0,1,2,,")
-        self.assertEqual(repr(found).splitlines()[:3], ["panel of 3 subjects by 'subject', bounds on demand for 1", "garp violated 1: no bounds", "1 with an error: ZeroPrice, the first 'c'"])
+        self.assertEqual(
+            repr(found).splitlines()[:3],
+            ["panel of 3 subjects by 'subject', bounds on demand for 1", "garp violated 1: no bounds", "1 with an error: ZeroPrice, the first 'c'"],
+        )
 
     def test_an_error_of_the_new_prices_is_raised_once(self):
         for new, fault in [([1, 0], "ZeroPrice"), ([1.1234567, 1], "TooManyDecimals"), ({"x": [1], "z": [1]}, "OtherGoods")]:
@@ -68,7 +70,13 @@ class Words(unittest.TestCase):
         return repr(found), found.text()
 
     def test_subjects_are_no_households(self):
-        for by, more, wanted in [("subject", {}, "subjects"), ("subject_id", {}, "subjects"), ("hh", {}, "households"), ("town", {}, "units"), ("town", {"units": "towns"}, "towns")]:
+        for by, more, wanted in [
+            ("subject", {}, "subjects"),
+            ("subject_id", {}, "subjects"),
+            ("hh", {}, "households"),
+            ("town", {}, "units"),
+            ("town", {"units": "towns"}, "towns"),
+        ]:
             shown, text = self.said(by, **more)
             self.assertIn(f"panel of 3 {wanted} by", shown)
             self.assertRegex(text, f"^{wanted} +3\\n")

@@ -97,7 +97,8 @@ class Texts(unittest.TestCase):
         # Half way between two, the even one.
         self.assertEqual([papers.shown(Fraction(it, 2000), 3) for it in (1825, 1827)], ["0.912", "0.914"])
         self.assertEqual(
-            [papers.mean(it, 4) for it in ([Fraction(1)], [Fraction(1), 1 - Fraction(1, 10**9)], [Fraction(4, 5), Fraction(1)])], ["1.0000", "0.9999", "0.9000"]
+            [papers.mean(it, 4) for it in ([Fraction(1)], [Fraction(1), 1 - Fraction(1, 10**9)], [Fraction(4, 5), Fraction(1)])],
+            ["1.0000", "0.9999", "0.9000"],
         )
         self.assertEqual(papers.quantile([Fraction(1), Fraction(0)], Fraction(1, 4)), Fraction(1, 4))
 

@@ -312,7 +312,10 @@ class Panels(unittest.TestCase):
         self.assertEqual((found[3].refusal.fault, found[3].refusal.label, found[1].verdict.labels), ("ZeroPrice", 6, [2, 5]))
         last = found.records()[3]
         self.assertEqual((last["fault"], last["record"], last["column"]), ("ZeroPrice", 6, 2))
-        self.assertIn("row 6, column 'p_a', value 0: This price is 0, and every price must be positive. Use a positive price, or leave out the row or the good. [ZeroPrice record 6 column 2]", found[3].message)
+        self.assertIn(
+            "row 6, column 'p_a', value 0: This price is 0, and every price must be positive. Use a positive price, or leave out the row or the good. [ZeroPrice record 6 column 2]",
+            found[3].message,
+        )
         self.assertEqual((found[1].efficiency, found[1].efficiency_floor, found[1].ccei), (Fraction(4, 5), 0.8, 0.8))
         self.assertTrue(revealed.verify(found[1].verdict))
 

@@ -2,7 +2,7 @@
 #![tactic(auto)]
 
 use rp_outside::{FileDesk, StdSink};
-use rp_run_stated::{Status, run};
+use rp_run::{Status, run};
 use std::env;
 use std::io::ErrorKind;
 use std::process::ExitCode;

@@ -1,8 +1,9 @@
-//! The program `rp-panel`: it hands the words, the files and the standard streams of the system to `run_panel`.
+//! The program `rp-panel`: it hands the words, the files and the standard streams of the system to
+//! `run_panel_with_help`.
 #![tactic(auto)]
 
 use rp_outside::{FileDesk, StdSink};
-use rp_panel_run::{Status, run_panel};
+use rp_panel_run::{Status, run_panel_with_help};
 use std::env;
 use std::io::ErrorKind;
 use std::process::ExitCode;
@@ -21,7 +22,7 @@ fn main(rt: HostRuntime) -> ExitCode {
     let mut desk = FileDesk::new(&rt, rt.alloc());
     let mut out = StdSink::new(rt.stdout());
     let mut err = StdSink::new(rt.stderr());
-    let status = run_panel(rt.alloc(), &words, &mut desk, &mut out, &mut err);
+    let status = run_panel_with_help(rt.alloc(), &words, &mut desk, &mut out, &mut err);
     ExitCode::from(status.number())
 }
 

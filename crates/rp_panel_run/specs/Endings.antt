@@ -1,5 +1,7 @@
 -- What the program prints for its words over a long file and a file of new prices, and what these are refused for.
-use Rattle.std.specs.Prelude.{◌≡◌, ◌≢◌, ℕ, ◌<◌, ◌≤◌, ◌⊎◌, Contains, List, length, codes, Option, None, Some, Ok, Err}
+use Rattle.std.specs.Prelude.{◌≡◌, ◌≢◌, ℕ, ◌<◌, ◌≤◌, ◌⊎◌, Bool, Contains, List, length, codes, Option, None, Some, Ok, Err}
+use Rattle.std.specs.Prelude.{if◌then◌else◌}
+use Rattle.rp_guide.specs.Gains.{IsPageGiven, SinkChange}
 use Rattle.rp_bound_rows.specs.declared.asked.BoundsAsked.{BoundsAsked}
 use Rattle.rp_bounds_panel.specs.BoundsText.{IsBoundsText}
 use Rattle.rp_limits.specs.declared.long.TheConstants.{BYTES}
@@ -10,7 +12,7 @@ use Rattle.rp_long.specs.Panels.{Panel, panel_in}
 use Rattle.rp_long.specs.declared.fault.LongFault.{LongFault}
 use Rattle.rp_panel.specs.PanelText.{IsPanelText}
 use Rattle.rp_panel_run.specs.Questions.{Asking, demand_by, files_of, given_by, id_name, more_asked, welfare_by}
-use Rattle.rp_panel_run.specs.Told.{file_line, left_out_lines, long_fault_text, unread_line}
+use Rattle.rp_panel_run.specs.Told.{file_line, left_out_lines, long_fault_text, unread_line, write_line}
 use Rattle.rp_panel_run.specs.declared.status.Status.{Status}
 use Rattle.rp_panel_run.specs.declared.status.Status.TheVariants as status
 
@@ -134,3 +136,8 @@ status_number status.ReadFault = 3
 status_number status.Refused = 4
 status_number status.WriteFault = 5
 status_number status.NoMemory = 6
+
+-- a page answers the words, or could not be written whole
+abbrev pub GivesPage : List ℕ → Status → SinkChange → SinkChange → Type 0
+GivesPage text result out err = (done : Bool) × (result ≡ (if done then status.Done else status.WriteFault))
+    × IsPageGiven text write_line done out err

@@ -48,7 +48,7 @@ nothing_read = record {
   seed = 0;
   bounds = None;
   new_prices = [];
-  awaited = wait.File;
+  awaited = wait.Next;
 }
 
 -- a text that may be a file's name: not empty, and not begun as an option is
@@ -83,7 +83,7 @@ with_file a word = record {
   seed = a.seed;
   bounds = a.bounds;
   new_prices = a.new_prices;
-  awaited = wait.Option;
+  awaited = wait.Next;
 }
 
 abbrev pub with_id : Asking → List ℕ → Asking
@@ -97,7 +97,7 @@ with_id a word = record {
   seed = a.seed;
   bounds = a.bounds;
   new_prices = a.new_prices;
-  awaited = wait.Option;
+  awaited = wait.Next;
 }
 
 abbrev pub with_kept : Asking → List ℕ → Asking
@@ -111,7 +111,7 @@ with_kept a word = record {
   seed = a.seed;
   bounds = a.bounds;
   new_prices = a.new_prices;
-  awaited = wait.Option;
+  awaited = wait.Next;
 }
 
 abbrev pub with_pump : Asking → Asking
@@ -125,7 +125,7 @@ with_pump a = record {
   seed = a.seed;
   bounds = a.bounds;
   new_prices = a.new_prices;
-  awaited = wait.Option;
+  awaited = wait.Next;
 }
 
 abbrev pub with_wide : Asking → Asking
@@ -139,7 +139,7 @@ with_wide a = record {
   seed = a.seed;
   bounds = a.bounds;
   new_prices = a.new_prices;
-  awaited = wait.Option;
+  awaited = wait.Next;
 }
 
 abbrev pub with_draws : Asking → ℕ → Asking
@@ -167,7 +167,7 @@ with_seed a seed = record {
   seed = seed;
   bounds = a.bounds;
   new_prices = a.new_prices;
-  awaited = wait.Option;
+  awaited = wait.Next;
 }
 
 abbrev pub with_bounds : Asking → BoundsAsked → List ℕ → Asking
@@ -181,7 +181,7 @@ with_bounds a asked word = record {
   seed = a.seed;
   bounds = Some asked;
   new_prices = word;
-  awaited = wait.Option;
+  awaited = wait.Next;
 }
 
 -- the option that a word is
@@ -211,10 +211,15 @@ unfoldable pub draws_taken : Asking → Option ℕ → Option Asking
 draws_taken a None = None
 draws_taken a (Some draws) = if draws == 0 then None else Some (with_draws a draws)
 
+-- with the name of the long file, where there is none yet, or with an option
+unfoldable pub next_taken : Asking → List ℕ → Option Asking
+next_taken a word =
+    if is_file_name word then (if length a.file == 0 then Some (with_file a word) else None)
+    else option_taken a (named_option word)
+
 -- with one word more, where it is one that may stand there
 unfoldable pub taken_as : Awaited → Asking → List ℕ → Option Asking
-taken_as wait.File a word = if is_file_name word then Some (with_file a word) else None
-taken_as wait.Option a word = option_taken a (named_option word)
+taken_as wait.Next a word = next_taken a word
 taken_as wait.Id a word = if length word == 0 then None else Some (with_id a word)
 taken_as wait.Kept a word = Some (with_kept a word)
 taken_as wait.Draws a word = draws_taken a (number_in MOST_DRAWS word)
@@ -230,22 +235,21 @@ all_taken a [] = Some a
 all_taken a (word ∷ words) = option_and_then (λ next. all_taken next words) (taken a word)
 
 -- no word is missing
-abbrev pub is_at_option : Awaited → Bool
-is_at_option wait.File = false
-is_at_option wait.Option = true
-is_at_option wait.Id = false
-is_at_option wait.Kept = false
-is_at_option wait.Draws = false
-is_at_option wait.Seed = false
-is_at_option (wait.NewPrices asked) = false
+abbrev pub is_at_next : Awaited → Bool
+is_at_next wait.Next = true
+is_at_next wait.Id = false
+is_at_next wait.Kept = false
+is_at_next wait.Draws = false
+is_at_next wait.Seed = false
+is_at_next (wait.NewPrices asked) = false
 
 -- beside bounds nothing more is asked of the verdicts
 abbrev pub go_together : Asking → Bool
 go_together a = not (is_some a.bounds) || not (a.pump || not (a.draws == 0))
 
--- no word is missing, and those that there are go together
+-- no word is missing, the long file is named, and the words that there are go together
 abbrev pub is_whole : Asking → Bool
-is_whole a = is_at_option a.awaited && go_together a
+is_whole a = is_at_next a.awaited && (not (length a.file == 0) && go_together a)
 
 abbrev pub where_whole : Asking → Option Asking
 where_whole a = if is_whole a then Some a else None

@@ -2,6 +2,7 @@
 #![tactic(auto)]
 
 mod answer;
+mod helping;
 mod laws;
 mod number;
 mod question;
@@ -10,7 +11,10 @@ mod status;
 mod telling;
 mod words;
 
-pub use laws::{bytes_decide_what_is_told, not_everything_answers_or_refuses};
+pub use helping::run_panel_with_help;
+pub use laws::{
+    bytes_decide_the_verdicts, bytes_decide_what_is_told, not_everything_answers_or_refuses,
+};
 pub use running::run_panel;
 pub use status::Status;
 pub use telling::unread_line;

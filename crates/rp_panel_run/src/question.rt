@@ -5,7 +5,7 @@ ghost use Rattle.rp_limits.specs.declared.command_line.TheConstants.{MOST_DRAWS}
 ghost use Rattle.rp_panel_run.specs.Questions as Questions;
 ghost use Rattle.rp_panel_run.specs.Questions.{draws_taken, files_of, go_together, id_name};
 ghost use Rattle.rp_panel_run.specs.Questions.{is_file_name, is_whole};
-ghost use Rattle.rp_panel_run.specs.Questions.{more_asked, named_option, nothing_read};
+ghost use Rattle.rp_panel_run.specs.Questions.{more_asked, named_option, next_taken, nothing_read};
 ghost use Rattle.rp_panel_run.specs.Questions.{option_taken, taken};
 
 use crate::number::number_in;
@@ -19,10 +19,8 @@ use std::marker::Model;
 /// What the next word is.
 #[derive(Clone, Copy, Debug, PartialEq, Eq)]
 pub enum Awaited {
-    /// The name of the long file.
-    File,
-    /// An option.
-    Option,
+    /// An option, or the name of the long file where none was taken yet.
+    Next,
     /// The name of the column of ids.
     Id,
     /// The name of a column whose texts are kept.
@@ -97,7 +95,7 @@ impl<'a> Question<'a> {
             seed: 0,
             bounds: None,
             new_prices: "",
-            awaited: Awaited::File,
+            awaited: Awaited::Next,
         }
     }
 
@@ -108,12 +106,11 @@ impl<'a> Question<'a> {
             ≡ (if yes then Some self.new else None)) }
     {
         match self.awaited {
-            Awaited::File => Ok(self.take_file(word)),
-            Awaited::Option => Ok(self.take_option(named_option(word))),
+            Awaited::Next => Ok(self.take_next(word)),
             Awaited::Id => Ok(self.take_id(word)),
             Awaited::Kept => {
                 self.kept.push(word.as_bytes())?;
-                self.awaited = Awaited::Option;
+                self.awaited = Awaited::Next;
                 Ok(true)
             }
             Awaited::Draws => Ok(self.take_draws(number_in(MOST_DRAWS, word.as_bytes()))),
@@ -122,16 +119,28 @@ impl<'a> Question<'a> {
         }
     }
 
-    /// Takes the name of the file.
-    fn take_file(&mut self, word: &'a str) -> bool
-        ensures { (if result then Some self.new else None)
-            ≡ (if is_file_name word.now then Some (Questions.with_file self.old word.now) else None) }
+    /// Takes the name of the file, or an option.
+    #[tactic(auto, unfolding(crate::specs::Questions::next_taken))]
+    fn take_next(&mut self, word: &'a str) -> bool
+        ensures { (if result then Some self.new else None) ≡ next_taken self.old word.now }
     {
-        if !is_file_name(word.as_bytes()) {
+        if is_file_name(word.as_bytes()) {
+            self.take_file(word)
+        } else {
+            self.take_option(named_option(word))
+        }
+    }
+
+    /// Takes the name of the file, where there is none yet.
+    fn take_file(&mut self, word: &'a str) -> bool
+        ensures { (if result then Some self.new else None) ≡ (if length self.old.file == 0
+            then Some (Questions.with_file self.old word.now) else None) }
+    {
+        if self.file.len() > 0 {
             return false;
         }
         self.file = word;
-        self.awaited = Awaited::Option;
+        self.awaited = Awaited::Next;
         true
     }
 
@@ -163,7 +172,7 @@ impl<'a> Question<'a> {
             return false;
         }
         self.pump = true;
-        self.awaited = Awaited::Option;
+        self.awaited = Awaited::Next;
         true
     }
 
@@ -176,7 +185,7 @@ impl<'a> Question<'a> {
             return false;
         }
         self.wide = true;
-        self.awaited = Awaited::Option;
+        self.awaited = Awaited::Next;
         true
     }
 
@@ -226,7 +235,7 @@ impl<'a> Question<'a> {
         }
         self.bounds = Some(asked);
         self.new_prices = word;
-        self.awaited = Awaited::Option;
+        self.awaited = Awaited::Next;
         true
     }
 
@@ -239,7 +248,7 @@ impl<'a> Question<'a> {
             return false;
         }
         self.id = word;
-        self.awaited = Awaited::Option;
+        self.awaited = Awaited::Next;
         true
     }
 
@@ -267,7 +276,7 @@ impl<'a> Question<'a> {
         match seed {
             Some(seed) => {
                 self.seed = seed;
-                self.awaited = Awaited::Option;
+                self.awaited = Awaited::Next;
                 true
             }
             None => false,
@@ -279,7 +288,7 @@ impl<'a> Question<'a> {
         ensures { result ≡ is_whole self.now }
     {
         match self.awaited {
-            Awaited::Option => self.go_together(),
+            Awaited::Next => self.file.len() > 0 && self.go_together(),
             _ => false,
         }
     }

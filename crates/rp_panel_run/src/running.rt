@@ -1,16 +1,19 @@
 //! A call of the program: its words, the table of the files that they name, and what is written and told.
-ghost use Rattle.std.specs.Prelude.{◌≡◌, ◌≢◌, ◌⊎◌, ◌≤◌, ℕ, List, None, Some, map, string_bytes};
+ghost use Rattle.std.specs.Prelude.{◌≡◌, ◌≢◌, ◌⊎◌, ◌≤◌, ℕ, List, None, Some};
+ghost use Rattle.std.specs.Prelude.{codes, map, string_bytes};
+ghost use Rattle.rp_guide.specs.Codes.{code_of_line};
 ghost use Rattle.rp_outside.specs.Faults.{EachStays, HasRisen, NoneFalls};
 ghost use Rattle.rp_outside.specs.Known.{Grows, GrowsByPrefix, Stays};
 ghost use Rattle.rp_panel_run.specs.Endings.{AnswersWith, IsAccepted, IsRefused, IsUnread};
 ghost use Rattle.rp_panel_run.specs.Endings.{NoneRose, RefusesWith};
 ghost use Rattle.rp_panel_run.specs.Questions.{Asking, asking_in};
-ghost use Rattle.rp_panel_run.specs.Told.{Gains, GainsBoth, memory_line, usage_line, write_line};
+ghost use Rattle.rp_panel_run.specs.Told.{Gains, GainsBoth, hinted, memory_line, usage_line};
+ghost use Rattle.rp_panel_run.specs.Told.{write_line};
 ghost use Rattle.rp_panel_run.specs.Turns.{AsksByName, AsksInTurn};
 
 use crate::Status;
 use crate::answer::{Answer, Cause, answer_files};
-use crate::telling::tell;
+use crate::telling::{tell, tell_error, tell_refusal};
 use crate::words::read_words;
 use rp_outside::{Desk, Sink, pour};
 use std::alloc::Global;
@@ -95,33 +98,110 @@ pub fn run_panel<D: Desk, O: Sink, E: Sink>(
     ensures out_counts { O.faults out.old ≤ O.faults out.new }
     ensures err_counts { E.faults err.old ≤ E.faults err.new }
 {
+    run_panel_by(alloc, false, words, desk, out, err)
+}
+
+/// Answers as `run_panel` does, and follows each error with a hint where hints are wanted.
+pub(crate) fn run_panel_by<D: Desk, O: Sink, E: Sink>(
+    alloc: Global,
+    hints: bool,
+    words: &Vec<String>,
+    desk: &mut D,
+    out: &mut O,
+    err: &mut E,
+) -> Status
+    // The words.
+    ensures usage { result ≡ Status.Usage → (asking_in (map string_bytes words.now.items) ≡ None)
+        × Gains (E.written err.old) (E.written err.new)
+        (E.faults err.old) (E.faults err.new) (hinted hints (codes "Usage") usage_line) }
+    ensures asked { result ≢ Status.Usage → result ≢ Status.NoMemory
+        → (a : Asking) × (asking_in (map string_bytes words.now.items) ≡ Some a) }
+
+    // The table.
+    ensures written { result ≡ Status.Done → (a : Asking) × (text : List ℕ) × (told : List ℕ)
+        × (asking_in (map string_bytes words.now.items) ≡ Some a)
+        × AnswersWith a (D.bytes desk.old) text told
+        × Grows (O.written out.old) (O.written out.new) text
+        × Gains (E.written err.old) (E.written err.new)
+        (E.faults err.old) (E.faults err.new) told }
+    ensures cut_short { result ≡ Status.WriteFault
+        → (a : Asking) × (text : List ℕ) × (told : List ℕ)
+        × (asking_in (map string_bytes words.now.items) ≡ Some a)
+        × AnswersWith a (D.bytes desk.old) text told
+        × GrowsByPrefix (O.written out.old) (O.written out.new) text
+        × HasRisen (O.faults out.old) (O.faults out.new)
+        × GainsBoth (E.written err.old) (E.written err.new)
+        (E.faults err.old) (E.faults err.new)
+        told (hinted hints (codes "WriteFault") write_line) }
+    ensures silent { result ≢ Status.Done → result ≢ Status.WriteFault
+        → Stays (O.written out.old) (O.written out.new) }
+
+    // Why there is none.
+    ensures refused { result ≡ Status.Refused → (a : Asking) × (line : List ℕ)
+        × (asking_in (map string_bytes words.now.items) ≡ Some a)
+        × RefusesWith a (D.bytes desk.old) line
+        × Gains (E.written err.old) (E.written err.new)
+        (E.faults err.old) (E.faults err.new) (hinted hints (code_of_line line) line) }
+    ensures read_fault { result ≡ Status.ReadFault → (a : Asking) × (line : List ℕ)
+        × (asking_in (map string_bytes words.now.items) ≡ Some a)
+        × IsUnread a (D.bytes desk.old) (D.faults desk.old) (D.faults desk.new) line
+        × Gains (E.written err.old) (E.written err.new)
+        (E.faults err.old) (E.faults err.new) (hinted hints (codes "ReadFault") line) }
+    ensures no_memory { result ≡ Status.NoMemory → Gains (E.written err.old) (E.written err.new)
+        (E.faults err.old) (E.faults err.new) (hinted hints (codes "NoMemory") memory_line) }
+
+    // When there is one.
+    ensures complete { (a : Asking) → asking_in (map string_bytes words.now.items) ≡ Some a
+        → IsAccepted a (D.bytes desk.old)
+        → NoneRose a (D.faults desk.old) (D.faults desk.new)
+        → ¬ HasRisen (O.faults out.old) (O.faults out.new)
+        → (result ≡ Status.Done) ⊎ (result ≡ Status.NoMemory) }
+    ensures refuses { (a : Asking) → asking_in (map string_bytes words.now.items) ≡ Some a
+        → IsRefused a (D.bytes desk.old)
+        → NoneRose a (D.faults desk.old) (D.faults desk.new)
+        → (result ≡ Status.Refused) ⊎ (result ≡ Status.NoMemory) }
+
+    // How often the desk is asked for the files of the words, and in which order.
+    ensures turns { AsksInTurn (D.bytes desk.old) (D.calls desk.old) (D.calls desk.new)
+        (asking_in (map string_bytes words.now.items)) }
+
+    // For which names, and each once.
+    ensures names { AsksByName (D.bytes desk.old) (D.asked desk.old) (D.asked desk.new)
+        (asking_in (map string_bytes words.now.items)) }
+
+    // What stays.
+    ensures bytes_stay { EachStays (D.bytes desk.old) (D.bytes desk.new) }
+    ensures files_counts { NoneFalls (D.faults desk.old) (D.faults desk.new) }
+    ensures out_counts { O.faults out.old ≤ O.faults out.new }
+    ensures err_counts { E.faults err.old ≤ E.faults err.new }
+{
     let Ok(asked) = read_words(alloc, words.as_slice()) else {
-        tell(err, b"rp-panel: out of memory\n");
+        tell_error(err, hints, b"rp-panel: out of memory\n", b"NoMemory");
         return Status::NoMemory;
     };
     let Some(question) = asked else {
-        tell(err, USAGE);
+        tell_error(err, hints, USAGE, b"Usage");
         return Status::Usage;
     };
     match answer_files(alloc, desk, &question) {
-        Ok(answer) => finish(&answer, out, err),
+        Ok(answer) => finish(&answer, hints, out, err),
         Err(Cause::Read(line)) => {
-            tell(err, line.as_slice());
+            tell_error(err, hints, line.as_slice(), b"ReadFault");
             Status::ReadFault
         }
         Err(Cause::Refused(line)) => {
-            tell(err, line.as_slice());
+            tell_refusal(err, hints, line.as_slice());
             Status::Refused
         }
         Err(Cause::NoMemory) => {
-            tell(err, b"rp-panel: out of memory\n");
+            tell_error(err, hints, b"rp-panel: out of memory\n", b"NoMemory");
             Status::NoMemory
         }
     }
 }
 
 /// Tells what is told of a table and writes it whole, or tells that it could not be written.
-fn finish<O: Sink, E: Sink>(answer: &Answer, out: &mut O, err: &mut E) -> Status
+fn finish<O: Sink, E: Sink>(answer: &Answer, hints: bool, out: &mut O, err: &mut E) -> Status
     ensures either { (result ≡ Status.Done) ⊎ (result ≡ Status.WriteFault) }
     ensures whole { result ≡ Status.Done
         → Grows (O.written out.old) (O.written out.new) answer.now.text.items
@@ -131,7 +211,8 @@ fn finish<O: Sink, E: Sink>(answer: &Answer, out: &mut O, err: &mut E) -> Status
         → GrowsByPrefix (O.written out.old) (O.written out.new) answer.now.text.items
         × HasRisen (O.faults out.old) (O.faults out.new)
         × GainsBoth (E.written err.old) (E.written err.new)
-        (E.faults err.old) (E.faults err.new) answer.now.told.items write_line }
+        (E.faults err.old) (E.faults err.new)
+        answer.now.told.items (hinted hints (codes "WriteFault") write_line) }
     ensures out_counts { O.faults out.old ≤ O.faults out.new }
     ensures err_counts { E.faults err.old ≤ E.faults err.new }
 {
@@ -139,7 +220,7 @@ fn finish<O: Sink, E: Sink>(answer: &Answer, out: &mut O, err: &mut E) -> Status
     match pour(out, answer.text.as_slice()) {
         Ok(()) => Status::Done,
         Err(_) => {
-            tell(err, b"rp-panel: write failed\n");
+            tell_error(err, hints, b"rp-panel: write failed\n", b"WriteFault");
             Status::WriteFault
         }
     }

@@ -1,9 +1,10 @@
-//! The command `rp-wide`: it hands the words, the files and the standard streams of the system to `run_wide`.
+//! The command `rp-wide`: it hands the words, the files and the standard streams of the system to
+//! `run_wide_with_help`.
 #![tactic(auto)]
 
+use rp_commands::Status;
 use rp_outside::{FileDesk, StdSink};
-use rp_run::Status;
-use rp_run_wide::run_wide;
+use rp_run_wide::run_wide_with_help;
 use std::env;
 use std::io::ErrorKind;
 use std::process::ExitCode;
@@ -22,7 +23,7 @@ fn main(rt: HostRuntime) -> ExitCode {
     let mut desk = FileDesk::new(&rt, rt.alloc());
     let mut out = StdSink::new(rt.stdout());
     let mut err = StdSink::new(rt.stderr());
-    let status = run_wide(rt.alloc(), &words, &mut desk, &mut out, &mut err);
+    let status = run_wide_with_help(rt.alloc(), &words, &mut desk, &mut out, &mut err);
     ExitCode::from(status.number())
 }
 

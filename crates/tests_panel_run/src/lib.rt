@@ -9,6 +9,8 @@ mod calls;
 #[cfg(test)]
 mod files;
 #[cfg(test)]
+mod helping;
+#[cfg(test)]
 mod household_faults;
 #[cfg(test)]
 mod names;

@@ -11,7 +11,6 @@ const REFUSED: &[&[&str]] = &[
     &[""],
     &["-l.csv"],
     &["--pump"],
-    &["--pump", "l.csv"],
     &["l.csv", "l.csv"],
     &["l.csv", "pump"],
     &["l.csv", "--Pump"],
@@ -34,7 +33,10 @@ const REFUSED: &[&[&str]] = &[
     &["l.csv", "--demand"],
     &["l.csv", "--demand", ""],
     &["l.csv", "--welfare", "-n.csv"],
-    &["--demand", "n.csv", "l.csv"],
+    &["--demand", "n.csv"],
+    &["l.csv", "--pump", "l.csv"],
+    &["--pump", "l.csv", "m.csv"],
+    &["--keep", "l.csv"],
     &["l.csv", "--demand", "n.csv", "--demand", "n.csv"],
     &["l.csv", "--demand", "n.csv", "--welfare", "n.csv"],
     &["l.csv", "--pump", "--demand", "n.csv"],
@@ -69,6 +71,14 @@ fn a_file_alone(rt: HostRuntime) -> Result<(), Fail> {
 fn the_pump_is_asked(rt: HostRuntime) -> Result<(), Fail> {
     let words = &["l.csv", "--pump"];
     writes(rt.alloc(), words, CONTRADICTION, "", PUMPED, "")
+}
+
+#[test]
+fn options_before_and_after_the_file(rt: HostRuntime) -> Result<(), Fail> {
+    let before = &["--pump", "--id", "household", "l.csv"];
+    let around = &["--id", "household", "l.csv", "--pump"];
+    writes(rt.alloc(), before, CONTRADICTION, "", PUMPED, "")?;
+    writes(rt.alloc(), around, CONTRADICTION, "", PUMPED, "")
 }
 
 #[test]

@@ -1,6 +1,6 @@
 //! `run` over files in memory.
 use rp_outside::{DripDesk, DripSink, MemDesk, MemFile, MemSink};
-use rp_run_stated::{Status, run};
+use rp_run::{Status, run};
 use std::alloc::Global;
 use std::test::Fail;
 

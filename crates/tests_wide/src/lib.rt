@@ -8,6 +8,8 @@ mod choices;
 #[cfg(test)]
 mod fills;
 #[cfg(test)]
+mod helping;
+#[cfg(test)]
 mod measures;
 #[cfg(test)]
 mod rounded;

@@ -19,7 +19,7 @@ pub(crate) struct Written {
 }
 
 /// The words of a command line.
-fn owned_words(alloc: Global, words: &[&str]) -> Result<Vec<String>, Fail> {
+pub(crate) fn owned_words(alloc: Global, words: &[&str]) -> Result<Vec<String>, Fail> {
     let mut all = Vec::new(alloc);
     for word in words {
         all.push(String::from_str(alloc, word)?)?;
@@ -28,7 +28,7 @@ fn owned_words(alloc: Global, words: &[&str]) -> Result<Vec<String>, Fail> {
 }
 
 /// Files of these names and texts.
-fn owned_files(alloc: Global, files: &[(&str, &str)]) -> Result<Vec<MemFile>, Fail> {
+pub(crate) fn owned_files(alloc: Global, files: &[(&str, &str)]) -> Result<Vec<MemFile>, Fail> {
     let mut all = Vec::new(alloc);
     for (name, text) in files {
         all.push(MemFile {

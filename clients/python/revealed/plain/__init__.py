@@ -81,7 +81,7 @@ def without_levels(own: Table) -> axioms.Costs:
 def asked(own: Table, new: Any, more: str | None, values: Any, forms: Forms) -> Sheet:
     if new is None:
         raise BadData("there are no new prices")
-    return beside(own, new, "p_", more, values, forms)
+    return beside(own.goods, new, "p_", more, values, forms)
 
 
 def scaled(sheet: Sheet, own: Table, money: bool = False) -> list[list[int]]:

@@ -1,5 +1,5 @@
 //! Certificates with levels.
-use rp_run::Status;
+use rp_commands::Status;
 use std::test::Fail;
 use tests_inputs::tables::{AT_799, AT_ALL, CONTRADICTION, MORE_AND_LESS_AT_ALL, OF_AT_799};
 use tests_support::{CHECK, ends, rejects};

@@ -1,5 +1,5 @@
 //! Texts that are refused as certificates.
-use rp_run::Status;
+use rp_commands::Status;
 use std::alloc::Global;
 use std::test::Fail;
 use tests_inputs::tables::{CERTIFICATE, CONTRADICTION, certificate_of};

@@ -1,7 +1,7 @@
 //! Certificates that are written, read and accepted.
+use rp_commands::Status;
 use rp_evidence::Kind;
 use rp_json::{JsonFault, read, write};
-use rp_run::Status;
 use std::alloc::Global;
 use std::process::Abort;
 use std::test::Fail;

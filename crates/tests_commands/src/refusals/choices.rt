@@ -1,5 +1,5 @@
 //! Files of choices that are refused.
-use rp_run::Status;
+use rp_commands::Status;
 use std::test::Fail;
 use tests_inputs::choices::{COPRIME, CROSSED, OF_VIOLATION, VIOLATION};
 use tests_support::{ends, filled, refuses, rejects};

@@ -1,5 +1,5 @@
 //! Files beside a table that are refused.
-use rp_run::Status;
+use rp_commands::Status;
 use std::alloc::Global;
 use std::test::Fail;
 use tests_inputs::tables::{APART, CONTRADICTION, MORE_AND_LESS};

@@ -1,5 +1,5 @@
 //! Words that are refused over files that could be read.
-use rp_run::Status;
+use rp_commands::Status;
 use std::alloc::Global;
 use std::test::Fail;
 use tests_inputs::tables::{APART, CERTIFICATE, CONTRADICTION, MORE_AND_LESS};

@@ -1,6 +1,6 @@
 //! Certificates on random choices.
 use crate::choices::lines::{ACCEPTED, CHECKED};
-use rp_run::Status;
+use rp_commands::Status;
 use std::test::Fail;
 use tests_inputs::choices::{
     COPRIME, CROSSED, DEAR, HALVES, IRRATIONAL, MIXTURE, OF_COPRIME_PER_100, OF_HALVES,

@@ -1,6 +1,6 @@
 //! Forged certificates on random choices.
 use crate::choices::lines::CHECKED;
-use rp_run::Status;
+use rp_commands::Status;
 use std::alloc::Global;
 use std::test::Fail;
 use tests_inputs::choices::{CROSSED, MIXTURE, OF_VIOLATION, ON_A_TABLE, VIOLATION};

@@ -1,5 +1,5 @@
 //! Menus of as many letters as there may be.
-use rp_run::Status;
+use rp_commands::Status;
 use std::test::Fail;
 use tests_support::{prints, run_over};
 

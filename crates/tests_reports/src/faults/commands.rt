@@ -1,6 +1,6 @@
 //! Failures of commands over tables.
 use crate::faults::failures::{Case, WHOLE, each_read_fails, each_write_fails};
-use rp_run::Status;
+use rp_commands::Status;
 use std::test::Fail;
 use tests_inputs::tables::{APART, CERTIFICATE, CONTRADICTION, MORE_AND_LESS};
 use tests_support::{CALM, Plan, is_ended, run_in_pieces};

@@ -1,5 +1,5 @@
 //! Each front of a file.
-use rp_run::Status;
+use rp_commands::Status;
 use std::alloc::Global;
 use std::process::Abort;
 use std::test::Fail;

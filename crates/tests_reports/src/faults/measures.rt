@@ -1,6 +1,6 @@
 //! Failures of commands over menus, technologies and budgets.
 use crate::faults::failures::{Case, each_read_fails, each_write_fails};
-use rp_run::Status;
+use rp_commands::Status;
 use std::test::Fail;
 use tests_inputs::tables::{ALONE, CONTRADICTION};
 

@@ -1,6 +1,6 @@
 //! Tests of the order in which a run asks for its files: each once, and none after one that is refused or missing.
 use rp_outside::{ListingDesk, MemFile, MemSink};
-use rp_run_stated::run;
+use rp_run::run;
 use std::alloc::Global;
 use std::test::Fail;
 

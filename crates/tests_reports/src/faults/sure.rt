@@ -1,6 +1,6 @@
 //! An outside that never fails, and the statuses.
 use rp_outside::{MemFile, SureDesk, SureSink};
-use rp_run_stated::{Status, run_surely};
+use rp_run::{Status, run_surely};
 use std::alloc::Global;
 use std::test::Fail;
 use tests_inputs::tables::ALONE;

@@ -2,7 +2,6 @@
 use crate::bounds::shared::{are_prices, push_list, push_number, push_numbers};
 use rp_evidence::{Bound, DemandPart, GoodBounds, Point};
 use rp_garp::GarpTest;
-use rp_num::Frac;
 use rp_support::demand;
 use rp_text::read_table;
 use std::alloc::Global;
@@ -24,19 +23,16 @@ fn push_point(alloc: Global, text: &mut String, point: &Point) -> Result<(), Fai
 /// The fraction of a shown bound.
 fn push_bound(alloc: Global, text: &mut String, bound: &Bound) -> Result<(), Fail> {
     match bound {
-        Bound::Shown { value, .. } => push_fraction(alloc, text, *value),
+        Bound::Shown { value, .. } => {
+            let (num, den) = (value.num(), value.den());
+            text.push_str(format!(in alloc; " {num}/{den}")?.as_str())?;
+            Ok(())
+        }
         Bound::Wide { step } => {
             text.push_str(" withheld at")?;
             push_number(alloc, text, u64::from(*step))
         }
     }
-}
-
-/// A fraction, with a space before it.
-fn push_fraction(alloc: Global, text: &mut String, value: Frac) -> Result<(), Fail> {
-    let (num, den) = (value.num(), value.den());
-    text.push_str(format!(in alloc; " {num}/{den}")?.as_str())?;
-    Ok(())
 }
 
 /// The bounds of a good.

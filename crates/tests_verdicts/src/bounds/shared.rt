@@ -1,6 +1,6 @@
-//! What these tests share: the limits of prices, and numbers as text.
+//! What these tests share: the limits of prices and of quantities, and numbers as text.
 ghost use Rattle.std.specs.Prelude.{◌↔◌, All, IsTrue};
-ghost use Rattle.rp_table.specs.Limits.{IsPrice};
+ghost use Rattle.rp_table.specs.Limits.{IsPrice, IsQuantity};
 
 use rp_limits::table::LARGEST;
 use std::alloc::Global;
@@ -11,6 +11,13 @@ pub(crate) fn are_prices(prices: &[u32]) -> bool
     ensures { IsTrue result ↔ All IsPrice prices.now }
 {
     prices.iter().all(|p| 1 <= *p && *p <= LARGEST)
+}
+
+/// Whether each quantity is within the limits.
+pub(crate) fn are_quantities(quantities: &[u32]) -> bool
+    ensures { IsTrue result ↔ All IsQuantity quantities.now }
+{
+    quantities.iter().all(|q| *q <= LARGEST)
 }
 
 /// A number, with a space before it.

@@ -1,0 +1,4 @@
+pub mod Hints
+pub mod Codes
+pub mod Gains
+pub mod Pages

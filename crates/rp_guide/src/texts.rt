@@ -1,0 +1,217 @@
+//! The texts of the help pages, and the version.
+
+/// The name of a command, which is empty for the program itself, and its help page.
+pub(crate) type Page = (&'static [u8], &'static [u8]);
+
+/// What `rp-wide --version` prints.
+pub(crate) const WIDE_VERSION: &[u8] = b"rp-wide 0.17.0\n";
+
+/// What `rp-panel --version` prints.
+pub(crate) const PANEL_VERSION: &[u8] = b"rp-panel 0.17.0\n";
+
+/// The page of `rp-panel`.
+pub(crate) const PANEL_PAGES: [(&[u8], &[u8]); 1] = [(
+    b"",
+    b"rp-panel tests each subject or household of one file, and writes a CSV table.\n\
+        \n\
+        usage: rp-panel [OPTION].. LONG\n\
+        \n\
+        LONG                a CSV file with a row for each observation: a column of ids, and p_NAME and\n\
+        \x20                   q_NAME for each good\n\
+        --id NAME           the column of ids; household by default\n\
+        --keep NAME         add this column, with the text of the first row of each unit\n\
+        --pump              add the maximum money pump index\n\
+        --power DRAWS SEED  add how many of DRAWS simulated data sets violate GARP\n\
+        --demand NEW        write bounds on demand at the prices of the file NEW instead\n\
+        --welfare NEW       write bounds on the money metric at the prices of NEW instead\n\
+        --wide              compute results as rp-wide does, which finds more of them\n\
+        \n\
+        Options may be before and after LONG.\n\
+        \n\
+        Exit codes: 0 the result was written, 1 a certificate was rejected, 2 not a command,\n\
+        3 a file could not be read, 4 the data have an error, 5 the result could not be written,\n\
+        6 memory ran out, 7 a word is not text. After an error, a line that begins with \"hint:\" says\n\
+        what to do. docs/reference/errors.md lists all errors.\n",
+)];
+
+/// The pages of `rp-wide`.
+pub(crate) const WIDE_PAGES: [(&[u8], &[u8]); 16] = [
+    (
+        b"",
+        b"rp-wide tests revealed preference exactly, and its results are proved.\n\
+            \n\
+            usage: rp-wide pairs TABLE\n\
+            \x20      rp-wide analyse TABLE\n\
+            \x20      rp-wide certify TABLE\n\
+            \x20      rp-wide check TABLE CERT\n\
+            \x20      rp-wide demand TABLE NEW [--json]\n\
+            \x20      rp-wide welfare TABLE NEW [--json]\n\
+            \x20      rp-wide utility TABLE BUNDLES\n\
+            \x20      rp-wide random BUDGETS CHOICES [--per N] [--json]\n\
+            \x20      rp-wide checkrandom BUDGETS CHOICES CERT [--per N]\n\
+            \x20      rp-wide patches BUDGETS CHOICES [--per N]\n\
+            \x20      rp-wide trial SEED ROWS GOODS\n\
+            \x20      rp-wide menus FILE [--per N]\n\
+            \x20      rp-wide pump TABLE\n\
+            \x20      rp-wide cost TECH NEW\n\
+            \x20      rp-wide power TABLE SEED N\n\
+            \x20      rp-wide COMMAND --help\n\
+            \x20      rp-wide --help\n\
+            \x20      rp-wide --version\n\
+            \n\
+            rp-wide COMMAND --help describes a command and its files.\n\
+            \n\
+            Exit codes: 0 the result was written, 1 a certificate was rejected, 2 not a command,\n\
+            3 a file could not be read, 4 the data have an error, 5 the result could not be written,\n\
+            6 memory ran out, 7 a word is not text. After an error, a line that begins with \"hint:\" says\n\
+            what to do. docs/reference/errors.md lists all errors.\n",
+    ),
+    (
+        b"pairs",
+        b"usage: rp-wide pairs TABLE\n\
+            \n\
+            Finds two observations that directly contradict each other (a violation of WARP).\n\
+            \n\
+            TABLE     a CSV file with a row for each observation, and p_NAME and q_NAME for each good\n",
+    ),
+    (
+        b"analyse",
+        b"usage: rp-wide analyse TABLE\n\
+            \n\
+            Tests GARP, homotheticity (HARP) and quasilinearity (cyclical monotonicity), and computes\n\
+            Afriat numbers and the CCEI (efficiency). Each result comes with its evidence.\n\
+            \n\
+            TABLE     a CSV file with a row for each observation, and p_NAME and q_NAME for each good\n\
+            \x20         (a column e has efficiency levels of observations, in thousandths)\n",
+    ),
+    (
+        b"certify",
+        b"usage: rp-wide certify TABLE\n\
+            \n\
+            Writes the results of analyse, with their evidence, as a certificate in JSON.\n\
+            \n\
+            TABLE     a CSV file with a row for each observation, and p_NAME and q_NAME for each good\n\
+            \x20         (a column e has efficiency levels of observations, in thousandths)\n",
+    ),
+    (
+        b"check",
+        b"usage: rp-wide check TABLE CERT\n\
+            \n\
+            Checks each item of a certificate, whoever made it, against the table. It is proved that an\n\
+            accepted item proves its result for exactly this table.\n\
+            \n\
+            TABLE     a CSV file with a row for each observation, and p_NAME and q_NAME for each good\n\
+            CERT      a certificate in JSON, as certify, demand --json and welfare --json write it\n",
+    ),
+    (
+        b"demand",
+        b"usage: rp-wide demand TABLE NEW [--json]\n\
+            \n\
+            Computes bounds on the demand for each good at new budgets, as GARP implies them.\n\
+            \n\
+            TABLE     a CSV file with a row for each observation, and p_NAME and q_NAME for each good\n\
+            NEW       a CSV file with a row for each new budget: p_NAME for each good, and the expenditure m\n\
+            --json    write a certificate instead of the report\n",
+    ),
+    (
+        b"welfare",
+        b"usage: rp-wide welfare TABLE NEW [--json]\n\
+            \n\
+            Computes bounds on the money metric: the least expenditure, at new prices, that is as good\n\
+            as each observation.\n\
+            \n\
+            TABLE     a CSV file with a row for each observation, and p_NAME and q_NAME for each good\n\
+            NEW       a CSV file with a row for each new budget: p_NAME for each good\n\
+            --json    write a certificate instead of the report\n",
+    ),
+    (
+        b"utility",
+        b"usage: rp-wide utility TABLE BUNDLES\n\
+            \n\
+            Computes the utility of bundles by the Afriat numbers of a table.\n\
+            \n\
+            TABLE     a CSV file with a row for each observation, and p_NAME and q_NAME for each good\n\
+            \x20         (a column e has efficiency levels of observations, in thousandths)\n\
+            BUNDLES   a CSV file with a row for each bundle: q_NAME for each good\n",
+    ),
+    (
+        b"random",
+        b"usage: rp-wide random BUDGETS CHOICES [--per N] [--json]\n\
+            \n\
+            Tests whether a population of utility maximizers could have made the observed choices\n\
+            (random utility).\n\
+            \n\
+            BUDGETS   a CSV file with a row for each budget: p_NAME for each good, and the income w\n\
+            CHOICES   a CSV file with a row for each choice: q_NAME for each good, budget, and n people\n\
+            --per N   round the shares of each budget to N parts, if their common denominator is too large\n\
+            --json    write a certificate instead of the report\n",
+    ),
+    (
+        b"checkrandom",
+        b"usage: rp-wide checkrandom BUDGETS CHOICES CERT [--per N]\n\
+            \n\
+            Checks a certificate on random choices against the budgets and the choices.\n\
+            \n\
+            BUDGETS   a CSV file with a row for each budget: p_NAME for each good, and the income w\n\
+            CHOICES   a CSV file with a row for each choice: q_NAME for each good, budget, and n people\n\
+            CERT      a certificate in JSON, as random --json writes it\n\
+            --per N   round the shares of each budget to N parts, if their common denominator is too large\n",
+    ),
+    (
+        b"patches",
+        b"usage: rp-wide patches BUDGETS CHOICES [--per N]\n\
+            \n\
+            Lists the patches of the budgets, and how many people chose in each.\n\
+            \n\
+            BUDGETS   a CSV file with a row for each budget: p_NAME for each good, and the income w\n\
+            CHOICES   a CSV file with a row for each choice: q_NAME for each good, budget, and n people\n\
+            --per N   round the shares of each budget to N parts, if their common denominator is too large\n",
+    ),
+    (
+        b"trial",
+        b"usage: rp-wide trial SEED ROWS GOODS\n\
+            \n\
+            Draws a table of pseudorandom numbers from a seed, and tests it.\n\
+            \n\
+            SEED      an integer of at most 64 bits\n\
+            ROWS      the number of observations, 1 to 256\n\
+            GOODS     the number of goods, 1 to 16\n",
+    ),
+    (
+        b"menus",
+        b"usage: rp-wide menus FILE [--per N]\n\
+            \n\
+            Tests whether a mixture of strict orders could have made the observed choices from menus.\n\
+            \n\
+            FILE      a CSV file with the columns menu, choice and n, such as abc,b,12\n\
+            --per N   round the shares of each budget to N parts, if their common denominator is too large\n",
+    ),
+    (
+        b"pump",
+        b"usage: rp-wide pump TABLE\n\
+            \n\
+            Computes the maximum money pump index of a table.\n\
+            \n\
+            TABLE     a CSV file with a row for each observation, and p_NAME and q_NAME for each good\n",
+    ),
+    (
+        b"cost",
+        b"usage: rp-wide cost TECH NEW\n\
+            \n\
+            Tests cost minimization and profit maximization, and bounds the cost of outputs at new\n\
+            input prices.\n\
+            \n\
+            TECH      a CSV file with w_NAME and x_NAME for each input, the output y and, if known, its price p\n\
+            NEW       a CSV file with w_NAME for each input, and the output y\n",
+    ),
+    (
+        b"power",
+        b"usage: rp-wide power TABLE SEED N\n\
+            \n\
+            Counts how many of N simulated data sets on the same budgets violate GARP.\n\
+            \n\
+            TABLE     a CSV file with a row for each observation, and p_NAME and q_NAME for each good\n\
+            SEED      an integer of at most 64 bits\n\
+            N         the number of simulated data sets, 1 to 1000\n",
+    ),
+];
