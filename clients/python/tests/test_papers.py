@@ -246,8 +246,8 @@ class Pictures(unittest.TestCase):
     def test_a_panel(self):
         axes = made().plot(random=5)
         own, drawn = [it.get_text() for it in axes.get_legend().get_texts()]
-        self.assertEqual(own, "2 households: 50.0% at least 0.90, 50.0% at least 0.95")
-        self.assertRegex(drawn, r"^5 random behaviours: \d+\.0% above 0\.90, \d+\.0% above 0\.95$")
+        self.assertEqual(own, "2 units: 50.0% at least 0.90, 50.0% at least 0.95")
+        self.assertRegex(drawn, r"^5 random behaviours: \d+\.0% at least 0\.90, \d+\.0% at least 0\.95$")
         self.saved(axes)
         self.saved(made().plot(random=0))
         own = matplotlib.pyplot.subplots()[1]
