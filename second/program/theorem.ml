@@ -76,18 +76,15 @@ let own = "(table_choices observed (by_own observed))"
 let all = "(table_choices observed (full observed))"
 
 let demanded name p m bounds =
-  let about good bound which value (of_consumers, of_utilities) =
-    let stated who n path =
+  let about good bound which value step =
+    let stated who n side =
       (sprintf "%s_good_%d_%s_%s" name (good + 1) bound n,
        sprintf "%s (%s observed %s %s) %d %s" which who (numbers p) (number m) good (fraction value),
-       sprintf path (sprintf "(proj2 (proj2 (proj2 it)) %d%%nat _ _ eq_refl)" good)) in
-    [ stated "bought_by_some" "of_consumers" of_consumers; stated "bought_by_utility" "of_utilities" of_utilities ] in
-  let bound good which_bound which value steps =
-    match value with Some v -> about good which_bound which v steps | None -> [] in
+       sprintf "%s (proj2 (proj2 (proj2 it)) %d%%nat _ _ _ eq_refl (%s eq_refl))" step good side) in
+    [ stated "bought_by_some" "of_consumers" "or_introl"; stated "bought_by_utility" "of_utilities" "or_intror" ] in
   List.concat (List.mapi (fun good (lower, upper) ->
-      bound good "lower" "infimum_of" lower (format_of_string "proj1 %s", format_of_string "proj1 (proj2 %s)")
-      @ bound good "upper" "supremum_of" upper
-          (format_of_string "proj1 (proj2 (proj2 %s))", format_of_string "proj2 (proj2 (proj2 %s))"))
+      (match lower with Some v -> about good "lower" "infimum_of" v "proj1" | None -> [])
+      @ (match upper with Some v -> about good "upper" "supremum_of" v "proj2" | None -> []))
     bounds)
 
 let stated claim =
@@ -154,58 +151,111 @@ let stated claim =
           | None -> []
           | Some v ->
               [ ("welfare_lower_bound",
-                 consumer (sprintf "forall x, bundle %s x -> prefers x (whole (bought observed %d)) -> (%s <= costs_at %s x)%%Q"
+                 consumer (sprintf "forall x, bundle %s x -> prefers x (whole (bought observed %d)) -> Qle %s (costs_at %s x)"
                    goods t (fraction v) p),
                  "fun prefers h w r => proj1 (proj2 (proj2 it) prefers h w r)") ])
   | WelfareViolated -> [ ("welfare_no_consumer", sprintf "irrational %s %s" goods all, "it") ]
   | Nothing -> []
 
-(* What a claim states of people over every ordered field. *)
+(* What a claim states of people over every ordered field, and how it follows. *)
 let stated_over claim =
   let held = "(held_over K (by_own observed))" and spent = "(spent_over K observed)" in
   let some = sprintf "rationalizable_over K observed %s" and none = sprintf "irrational_over K observed %s" in
+  let wants = sprintf "monotone_over K %s prefers \\/ nonsatiated_over K %s prefers" goods goods in
+  let consumer body =
+    sprintf "forall prefers, preference_over K %s prefers ->\n    %s ->\n    rationalizes_over K observed %s prefers ->%s"
+      goods wants spent body in
   match claim with
-  | GarpHolds -> [ ("some_consumer_over", some held) ]
-  | GarpViolated -> [ ("no_consumer_over", none held) ]
+  | GarpHolds -> [ ("some_consumer_over", some held, "it") ]
+  | GarpViolated -> [ ("no_consumer_over", none held, "it") ]
   | AfriatNumbers (u, l) ->
       let u = folded "      " (List.map number u) and l = folded "      " (List.map number l) in
       [ ("utility_over",
          sprintf "exists u, least_allowed_over K observed (by_own observed)\n    %s\n    %s u /\\\n    increasing_over K %s u /\\ concave_over K %s u /\\ rationalizes_over K observed %s (by_utility_over K u)"
-           u l goods goods held) ]
-  | NoAfriatNumbers -> [ ("afriat_no_consumer_over", none held) ]
-  | EfficiencyIs (e, attained) -> [ ("efficiency_over", sprintf "claim_over K observed (EfficiencyIs %s %b)" (fraction e) attained) ]
+           u l goods goods held, "it") ]
+  | NoAfriatNumbers -> [ ("afriat_no_consumer_over", none held, "it") ]
+  | EfficiencyIs (e, attained) ->
+      [ ("efficiency_over", sprintf "claim_over K observed (EfficiencyIs %s %b)" (fraction e) attained, "it") ]
   | HomotheticHolds ->
       [ ("homogeneous_utility_over",
          sprintf "exists u, increasing_over K %s u /\\ concave_over K %s u /\\ homogeneous_over K %s u /\\\n    rationalizes_over K observed %s (by_utility_over K u)"
-           goods goods goods spent) ]
+           goods goods goods spent, "it") ]
   | HomotheticViolated ->
       [ ("no_homothetic_consumer_over",
-         sprintf "forall prefers, preference_over K %s prefers -> homothetic_over K %s prefers ->\n    monotone_over K %s prefers \\/ nonsatiated_over K %s prefers -> ~ rationalizes_over K observed %s prefers"
-           goods goods goods goods spent) ]
+         sprintf "forall prefers, preference_over K %s prefers -> homothetic_over K %s prefers ->\n    %s -> ~ rationalizes_over K observed %s prefers"
+           goods goods wants spent, "it") ]
   | QuasilinearHolds ->
       [ ("worth_in_money_over",
-         sprintf "exists v, increasing_over K %s v /\\ concave_over K %s v /\\ worth_over K observed v" goods goods) ]
-  | QuasilinearViolated -> [ ("no_worth_in_money_over", "forall v, ~ worth_over K observed v") ]
-  | DemandBounds _ -> [ ("demand_some_consumer_over", some spent) ]
-  | WelfareBounds _ -> [ ("welfare_some_consumer_over", some spent) ]
-  | DemandViolated -> [ ("demand_no_consumer_over", none spent) ]
-  | WelfareViolated -> [ ("welfare_no_consumer_over", none spent) ]
+         sprintf "exists v, increasing_over K %s v /\\ concave_over K %s v /\\ worth_over K observed v" goods goods, "it") ]
+  | QuasilinearViolated -> [ ("no_worth_in_money_over", "forall v, ~ worth_over K observed v", "it") ]
+  | DemandBounds (p, m, bounds) ->
+      let at = sprintf "%s %s" (numbers p) (number m) in
+      let about good bound which value step =
+        let stated who n side =
+          (sprintf "demand_good_%d_%s_%s_over" (good + 1) bound n,
+           sprintf "%s K (%s K observed %s) %d (fraction_over K %s)" which who at good (fraction value),
+           sprintf "%s (proj2 (proj2 it) %d%%nat _ _ _ eq_refl (%s eq_refl))" step good side) in
+        [ stated "bought_by_some_over" "of_consumers" "or_introl"; stated "bought_by_utility_over" "of_utilities" "or_intror" ] in
+      ("demand_some_consumer_over", sprintf "exists x, bought_by_utility_over K observed %s x" at, "proj1 (proj2 it)")
+      :: List.concat (List.mapi (fun good (lower, upper) ->
+             (match lower with Some v -> about good "lower" "infimum_over" v "proj1" | None -> [])
+             @ (match upper with Some v -> about good "upper" "supremum_over" v "proj2" | None -> []))
+           bounds)
+  | WelfareBounds (p, t, lower, _, s) ->
+      ("welfare_upper_bound_over", consumer (sprintf " prefers (bought_over K observed %d) (bought_over K observed %d)" s t),
+       "fun prefers h w r => proj2 (proj2 it prefers h w r)")
+      :: (match lower with
+          | None -> []
+          | Some v ->
+              [ ("welfare_lower_bound_over",
+                 consumer (sprintf "\n    forall x, bundle_over K %s x -> prefers x (bought_over K observed %d) ->\n    at_most K (fraction_over K %s) (costs_over K %s x)"
+                   goods t (fraction v) (numbers p)),
+                 "fun prefers h w r => proj1 (proj2 it prefers h w r)") ])
+  | DemandViolated -> [ ("demand_no_consumer_over", none spent, "it") ]
+  | WelfareViolated -> [ ("welfare_no_consumer_over", none spent, "it") ]
   | Nothing -> []
 
-let write ~table_name ~table_text ~certificate_name ~certificate_text tb claims =
-  let out = Buffer.create 65536 in
-  let say form = Printf.kbprintf (fun out -> Buffer.add_char out '\n') out form in
-  let comment name = String.map (fun c -> if c = '*' || c = '"' || c = '(' || c < ' ' then '.' else c) name in
-  say "(* The verdicts on the table %s, from the certificate %s, as theorems." (comment table_name) (comment certificate_name);
+(* What stands at the head of a file of theorems, and its comments. *)
+let say_to out form = Printf.kbprintf (fun out -> Buffer.add_char out '\n') out form
+let comment name = String.map (fun c -> if c = '*' || c = '"' || c = '(' || c < ' ' then '.' else c) name
+let head out what modules =
+  let say form = say_to out form in
+  say "(* The verdicts on %s, as theorems." what;
   say "   Written by rp-second --theorem; Coq proves it:  coqc -Q second/theories Second THIS_FILE";
   say "   The definitions are in second/theories/Spec*.v; second/DEFINITIONS.md reads them. *)";
   say "From Coq Require Import ZArith QArith List String.";
-  say "From Second Require Import Judge SpecOver OverClaims Reals.";
+  say "From Second Require Import %s." modules;
   say "Import ListNotations.";
   say "Open Scope Z_scope.";
   say "Open Scope string_scope.";
   say "Open Scope list_scope.";
-  say "";
+  say ""
+
+(* Names that stand once each. *)
+let fresh_names () =
+  let used = Hashtbl.create 16 in
+  fun name ->
+    let n = try Hashtbl.find used name + 1 with Not_found -> 1 in
+    Hashtbl.replace used name n;
+    if n = 1 then name else sprintf "%s_%d" name n
+
+(* What the theorems rest on: those over every field on no axiom, and those over the reals on the library's. *)
+let foot out names over =
+  let say form = say_to out form in
+  say "(* None of them rests on an axiom. *)";
+  say "Definition every_theorem := (%s)." (String.concat ",\n  " (List.rev names));
+  say "Print Assumptions every_theorem.\n";
+  if over <> [] then begin
+    say "(* The same of people with real quantities; under it are the axioms of Coq's library of real numbers. *)";
+    say "Definition with_real_quantities := (%s)." (String.concat ", " (List.rev over));
+    say "Print Assumptions with_real_quantities."
+  end
+
+let write ~table_name ~table_text ~certificate_name ~certificate_text tb claims =
+  let out = Buffer.create 65536 in
+  let say form = say_to out form in
+  head out (sprintf "the table %s, from the certificate %s" (comment table_name) (comment certificate_name))
+    "Judge SpecOver OverClaims Reals";
   say "(* The bytes of both files. *)";
   say "Definition table_file : bytes := %s.\n" (literal table_text);
   say "Definition certificate_file : bytes := %s.\n" (literal certificate_text);
@@ -220,11 +270,7 @@ let write ~table_name ~table_text ~certificate_name ~certificate_text tb claims 
   say "(* The table is what the bytes denote, and they denote no other. *)";
   say "Theorem table_denoted : denotes table_file observed /\\ forall other, denotes table_file other -> other = observed.";
   say "Proof. exact (judged_table judged). Qed.\n";
-  let used = Hashtbl.create 16 and names = ref [ "table_denoted" ] in
-  let fresh name =
-    let n = try Hashtbl.find used name + 1 with Not_found -> 1 in
-    Hashtbl.replace used name n;
-    if n = 1 then name else sprintf "%s_%d" name n in
+  let fresh = fresh_names () and names = ref [ "table_denoted" ] in
   List.iteri (fun k claim ->
       List.iter (fun (name, statement, proof) ->
           let name = fresh name in
@@ -236,20 +282,83 @@ let write ~table_name ~table_text ~certificate_name ~certificate_text tb claims 
   say "(* What they say of people whose goods are divided as any ordered field has it. *)";
   let over = ref [] in
   List.iteri (fun k claim ->
-      List.iter (fun (name, statement) ->
+      List.iter (fun (name, statement, proof) ->
           let name = fresh name in
           names := name :: !names;
           over := (name ^ " reals") :: !over;
           say "Theorem %s : forall K, %s." name statement;
-          say "Proof. intros K. exact (judge_claim_over judged %d%%nat eq_refl K). Qed.\n" k)
+          say "Proof. intros K. pose (it := judge_claim_over judged %d%%nat eq_refl K). exact (%s). Qed.\n" k proof)
         (stated_over claim))
     claims;
-  say "(* None of them rests on an axiom. *)";
-  say "Definition every_theorem := (%s)." (String.concat ",\n  " (List.rev !names));
-  say "Print Assumptions every_theorem.\n";
-  if !over <> [] then begin
-    say "(* The same of people with real quantities; under it are the axioms of Coq's library of real numbers. *)";
-    say "Definition with_real_quantities := (%s)." (String.concat ", " (List.rev !over));
-    say "Print Assumptions with_real_quantities."
-  end;
+  foot out !names !over;
+  Buffer.contents out
+
+(* ---- random choices ---- *)
+
+(* What a claim states of populations over every ordered field, and how it follows. *)
+let stated_of_choices = function
+  | SomePopulation ->
+      [ ("choices_rationalized", "rationalized_by_population K kinds offers shares", "it") ]
+  | NoPopulation v ->
+      [ ("choices_not_rationalizable", "not_rationalizable_by_any_population K kinds offers shares", "proj1 it");
+        ("greatest_share_is", sprintf "greatest_share K kinds offers shares %s" (fraction v), "proj2 it") ]
+  | NothingOnChoices -> []
+
+let choices_claim_text = function
+  | SomePopulation -> "SomePopulation"
+  | NoPopulation v -> sprintf "NoPopulation %s" (fraction v)
+  | NothingOnChoices -> "NothingOnChoices"
+
+let text_of bytes = literal (String.init (List.length bytes) (fun i -> Char.chr (Z.to_int (List.nth bytes i))))
+
+let write_choices ~names:(budgets_name, choices_name, certificate_name) ~texts:(budgets_text, choices_text, certificate_text)
+    goods offers records shares claims =
+  let out = Buffer.create 65536 in
+  let say form = say_to out form in
+  head out (sprintf "the choices %s from the budgets %s, from the certificate %s" (comment choices_name)
+      (comment budgets_name) (comment certificate_name)) "JudgeChoices Reals";
+  say "(* The bytes of the three files. *)";
+  say "Definition budgets_file : bytes := %s.\n" (literal budgets_text);
+  say "Definition choices_file : bytes := %s.\n" (literal choices_text);
+  say "Definition certificate_file : bytes := %s.\n" (literal certificate_text);
+  let rows name kind one l = say "Definition %s : list %s := [\n  %s]." name kind (String.concat ";\n  " (List.map one l)) in
+  say "(* The goods; prices and income of each budget, in scaled units; and of each record its budget, from 1, the bundle and";
+  say "   how many times it was chosen. *)";
+  say "Definition names : list bytes := %s." (listed text_of goods);
+  say "Definition kinds : nat := %d%%nat." (List.length goods);
+  rows "offers" "offer" (fun (p, w) -> sprintf "(%s, %s)" (numbers p) (number w)) offers;
+  rows "records" "made"
+    (fun r -> sprintf "Made %s %s %s" (number r.made_on) (numbers r.made_of) (number r.made_times)) records;
+  say "(* The patches in which something was chosen: the budget, from 0; on which side of each budget they lie; and their part";
+  say "   of what was chosen on their budget. *)";
+  rows "shares" "share"
+    (fun e -> sprintf "Share %d %s %s" e.on_budget (numbers e.on_sides) (fraction e.part)) shares;
+  say "Definition seen : observed_choices := ObservedChoices names offers records shares.\n";
+  say "Definition claims : list choices_claim := [%s].\n" (String.concat ";\n  " (List.map choices_claim_text claims));
+  say "Lemma judged : judge_choices budgets_file choices_file certificate_file = Some (seen, claims).";
+  say "Proof. vm_cast_no_check (eq_refl (Some (seen, claims))). Qed.\n";
+  say "(* Budgets and choices are what the bytes denote, and they denote no other; the shares are those of the choices. *)";
+  say "Theorem budgets_denoted : budgets_denote budgets_file names offers /\\";
+  say "  forall names' offers', budgets_denote budgets_file names' offers' -> names' = names /\\ offers' = offers.";
+  say "Proof. exact (proj1 (judge_choices_sound judged)). Qed.\n";
+  say "Theorem choices_denoted : choices_denote names %d choices_file records /\\" (List.length offers);
+  say "  forall other, choices_denote names %d choices_file other -> other = records." (List.length offers);
+  say "Proof. exact (proj1 (proj2 (judge_choices_sound judged))). Qed.\n";
+  say "Theorem choices_are_good : good_choices kinds offers records.";
+  say "Proof. exact (proj1 (proj2 (proj2 (judge_choices_sound judged)))). Qed.\n";
+  say "Theorem shares_observed : observed_shares offers records shares.";
+  say "Proof. exact (proj1 (proj2 (proj2 (proj2 (judge_choices_sound judged))))). Qed.\n";
+  say "(* What they say of populations whose goods are divided as any ordered field has it. *)";
+  let fresh = fresh_names () in
+  let names = ref [ "shares_observed"; "choices_are_good"; "choices_denoted"; "budgets_denoted" ] and over = ref [] in
+  List.iteri (fun k claim ->
+      List.iter (fun (name, statement, proof) ->
+          let name = fresh name in
+          names := name :: !names;
+          over := (name ^ " reals") :: !over;
+          say "Theorem %s : forall K, %s." name statement;
+          say "Proof. intros K. pose (it := judged_choice judged %d%%nat eq_refl K). exact (%s). Qed.\n" k proof)
+        (stated_of_choices claim))
+    claims;
+  foot out !names !over;
   Buffer.contents out

@@ -67,7 +67,7 @@ LIMITS = {
     "menu.letters": "| letters of a menu | one to {} |", "menu.cells": "| cells of menus | at most {} |", "patch.patches": "| patches | at most {} |",
     "generated.patches": "| patches, by `rp-wide` | at most {} |", "patch.places": "| patches, by `rp-wide` | at most {} |",
     "patch.units": "| units of a budget or a menu | at most {} |", "types.combinations": "| combinations of patches | at most {};",
-    "types.types": "| rational types | at most {};", "generated.steps": "that `rp-wide` reports | at most {} |",
+    "types.types": "| rational types | at most {};", "generated.steps": "searches and check together | at most {} |",
     "command_line.draws": "| behaviours of `power` | 1 to {} |", "command_line.rows": "| observations of `trial` | 1 to {} |",
     "run.bytes": "| a file | at most {} bytes |", "run.certificate_bytes": "| a certificate | at most {} bytes |",
     "long.bytes": "| a long file of a panel | at most {} bytes |", "long.records": "| rows of a long file | at most {} |",
@@ -84,7 +84,7 @@ FILES_LIMITS = {
 CERTIFICATE_LIMITS = {"run.certificate_bytes": "a file of at most {} bytes", "generated.steps": "tries at most {} beginnings"}
 RANDOM_LIMITS = {
     "patch.patches": "more than {} patches up to", "patch.units": "passes {} |", "types.combinations": "more than {} combinations",
-    "types.types": "more than {} rational types", "generated.patches": "`rp-wide`: {} |", "generated.steps": "reports is at most {}",
+    "types.types": "more than {} rational types", "generated.patches": "`rp-wide`: {} |", "generated.steps": "check together make at most {} steps",
 }  # fmt: skip
 # The page on which a line of reports is explained, for lines that more than one command prints, or that no command is named for.
 PAGE_OF_LINE = {

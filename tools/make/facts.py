@@ -176,7 +176,7 @@ def faults():
         if places not in one["places"]:
             one["places"].append(places)
 
-    source = text("rp_run/src/faults.rt")
+    source = text("rp_commands/src/faults.rt")
     for enum, file, of in (
         ("TableFault", "rp_sheet/src/fault.rt", "numbers"),
         ("MenuFault", "rp_menu/src/fault.rt", "menus"),
@@ -187,7 +187,7 @@ def faults():
             rf'{enum}::(\w+)(?: \{{[^}}]*\}})? =>\s*\{{?\s*told\(b"(\w+)", Place::(\w+)', source))  # fmt: skip
         untold = set(re.findall(rf"{enum}::(\w+) => None", source))
         if set(told) | untold != set(says):
-            raise Unread(f"crates/rp_run/src/faults.rt does not tell each {enum}")
+            raise Unread(f"crates/rp_commands/src/faults.rt does not tell each {enum}")
         for it, (name, place) in told.items():
             add(name, of, PLACES[place], says[it])
     add_refusals(add)
@@ -197,13 +197,13 @@ def faults():
 def add_refusals(add):
     """Adds what is told beside the faults of files: of a file as a whole, of patches, of rational types, and of units."""
     for file, of, says in (
-        ("rp_run/src/files.rt", "file", "The file has more bytes than are read."),
-        ("rp_run/src/tables.rt", "table", "The table has levels of observations, and the command does not take them."),
+        ("rp_commands/src/files.rt", "file", "The file has more bytes than are read."),
+        ("rp_commands/src/tables.rt", "table", "The table has levels of observations, and the command does not take them."),
     ):
         for name in dict.fromkeys(re.findall(r'refused\(alloc, file, b"(\w+)"\)', text(file))):
             add(name, of, [], says)
     says = {**variants("rp_patch/src/fault.rt", "PatchFault"), **variants("rp_types/src/fault.rt", "TypesFault")}
-    for file, of in (("rp_run/src/patches.rt", "choices"), ("rp_run/src/units.rt", "menus")):
+    for file, of in (("rp_commands/src/patches.rt", "choices"), ("rp_commands/src/units.rt", "menus")):
         for name, place in re.findall(r'b"rp: (\w+)(?: (\w+) |\\n)"', text(file)):
             add(name, of, [place] if place else [], says[name])
 

@@ -2,7 +2,7 @@
 """Altered evidence on a money pump, on choices from menus and on what outputs cost: `verify` and the program's own checks say the
 same of it.
 
-usage: altered.py                      looks at the cases of crates/tests_files with `verify`; Rattle's tests look at the same
+usage: altered.py                      looks at the cases of crates/tests_mixtures with `verify`; Rattle's tests look at the same
        altered.py --write PROGRAM      draws them anew by a fixed seed, with the true evidence of the program, and writes them there
 
 A case is the number of a table, evidence and an answer: 1 where the evidence proves what it claims and has the form that the
@@ -22,7 +22,7 @@ HERE = os.path.dirname(os.path.realpath(__file__))
 sys.path.insert(0, os.path.dirname(HERE))
 from revealed.verifier import cost, menus, pump, reports, tables  # noqa: E402
 
-FOLDER = os.path.realpath(f"{HERE}/../../../crates/tests_files/src/altered")
+FOLDER = os.path.realpath(f"{HERE}/../../../crates/tests_mixtures/src/altered")
 SEED = "altered"
 TABLES, EACH = 10, 8
 WIDE = {

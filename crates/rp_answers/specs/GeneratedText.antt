@@ -1,13 +1,13 @@
 -- What `random` prints of choices whose rational types are not listed: the report, or the JSON, of a certificate with the
 -- one item on whether rational types make the choices (McFadden and Richter 1990).
-use Rattle.std.specs.Prelude.{◌≡◌, ◌≤◌, Bool, List, ℕ, None, if◌then◌else◌}
+use Rattle.std.specs.Prelude.{◌≡◌, Bool, List, ℕ, None, if◌then◌else◌}
 use Rattle.rp_check.specs.RandomCheckWithin.{IsRandomCheckVerdictWithin}
 use Rattle.rp_check.specs.declared.verdict.Verdict.TheVariants.{Accepted}
 use Rattle.rp_evidence.specs.Certificates.{random_certificate}
 use Rattle.rp_evidence.specs.declared.certificate.Certificate.{Certificate}
 use Rattle.rp_evidence.specs.declared.certificate.Kind.TheVariants.{Random as RandomKind}
 use Rattle.rp_evidence.specs.declared.random.RandomPart.{RandomPart}
-use Rattle.rp_generated.specs.Steps.{WithheldAt}
+use Rattle.rp_generated.specs.Steps.{IsWithheldAfter, WithheldAt}
 use Rattle.rp_json.specs.CertificateValue.{certificate_text}
 use Rattle.rp_limits.specs.declared.generated.TheConstants.{STEPS}
 use Rattle.rp_patch.specs.Patches.{PatchList}
@@ -17,8 +17,9 @@ use Rattle.rp_agreement.specs.ReadBack.{IsReadBack}
 use Rattle.rp_report.specs.RandomText.{random_report_text}
 
 -- the one item proves its verdict over all rational types, shows the greatest share and says so of persons, the checker
--- accepts it within its steps, and the text of the certificate is read back as the same. Where it is withheld, no more
--- steps are told than may be made. How a mixture is found is not stated here
+-- accepts it within its steps, and the text of the certificate is read back as the same. Where it is withheld, the steps
+-- that are told were made by searches, and these are spent, or found a rational type, or there is none. How a mixture is
+-- found is not stated here
 pub record IsGeneratedAnswer (p : PatchList) (certificate : Certificate) : Type 0 where
   pub evidence : RandomPart
   pub item : certificate ≡ random_certificate p.total evidence
@@ -27,7 +28,7 @@ pub record IsGeneratedAnswer (p : PatchList) (certificate : Certificate) : Type 
   pub says : SaysOfChoices p evidence
   pub accepted : IsRandomCheckVerdictWithin p certificate.items STEPS Accepted
   pub read_back : IsReadBack RandomKind certificate
-  pub steps : WithheldAt evidence (λ step. step ≤ STEPS)
+  pub steps : WithheldAt evidence (IsWithheldAfter p)
 
 -- the text is that of such a certificate
 abbrev pub IsGeneratedText : Bool → PatchList → List ℕ → Type 0

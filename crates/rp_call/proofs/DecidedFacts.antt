@@ -7,11 +7,11 @@ use Rattle.rp_answers.specs.declared.status.Status.{Status}
 use Rattle.rp_answers.specs.declared.status.Status.TheVariants.{Done, Rejected, Usage, ReadFault, Refused, WriteFault, NoMemory}
 use Rattle.rp_patch.proofs.Determined.{same_list}
 use Rattle.rp_types.proofs.Determined.{types_once}
-use Rattle.rp_run.proofs.OneAnswer.{denotes_one}
-use Rattle.rp_run.proofs.RunLemmas.{not_both}
-use Rattle.rp_run.specs.Answers.{IsAcceptedBy, IsRefusedBy, RefusesWithBy}
-use Rattle.rp_run.specs.Contents.{Contents, DenotesBy}
-use Rattle.rp_run.specs.Endings.{IsEnd}
+use Rattle.rp_commands.proofs.OneAnswer.{denotes_one}
+use Rattle.rp_commands.proofs.RunLemmas.{not_both}
+use Rattle.rp_commands.specs.Answers.{IsAcceptedBy, IsRefusedBy, RefusesWithBy}
+use Rattle.rp_commands.specs.Contents.{Contents, DenotesBy}
+use Rattle.rp_commands.specs.Endings.{IsEnd}
 use Rattle.rp_frame.specs.Frames.{Frame, Request, request_in}
 use Rattle.rp_frame.specs.Given.{AreGiven, IsFirstMissing}
 use Rattle.rp_frame.specs.Handed.{IsText}

@@ -8,7 +8,7 @@ use Rattle.rp_answers.specs.Printed.{Printed}
 use Rattle.rp_answers.specs.declared.choice_limits.ChoiceLimits.{ChoiceLimits}
 use Rattle.rp_answers.specs.declared.status.Status.{Status}
 use Rattle.rp_answers.specs.declared.status.Status.TheVariants.{Done, Rejected, Usage, ReadFault, Refused, WriteFault, NoMemory}
-use Rattle.rp_run.specs.Answers.{AnswersLineBy, AreContents, RefusesWithBy}
+use Rattle.rp_commands.specs.Answers.{AnswersLineBy, AreContents, RefusesWithBy}
 use Rattle.rp_frame.specs.Frames.{Frame, Request, request_in}
 use Rattle.rp_frame.specs.Given.{AreGiven, IsFirstMissing}
 use Rattle.rp_frame.specs.Handed.{Holds, IsText}

@@ -7,10 +7,10 @@ use Rattle.rp_answers.specs.Printed.{Printed}
 use Rattle.rp_answers.specs.declared.status.Status.{Status}
 use Rattle.rp_answers.specs.declared.status.Status.TheVariants.{Done, Rejected, Usage, ReadFault, Refused, WriteFault, NoMemory}
 use Rattle.rp_outside.specs.SureDesk.{SureState}
-use Rattle.rp_run.specs.Answers.{AnswersLineBy, Files, RefusesWithBy, all_known}
-use Rattle.rp_run.specs.Calls.{AnswersUsage, IsWrittenBy, TellsWhyBy}
-use Rattle.rp_run.specs.Endings.{IsFaultLineBy}
-use Rattle.rp_run.specs.Gains.{Gains}
+use Rattle.rp_commands.specs.Answers.{AnswersLineBy, Files, RefusesWithBy, all_known}
+use Rattle.rp_commands.specs.Calls.{AnswersUsage, IsWrittenBy, TellsWhyBy}
+use Rattle.rp_commands.specs.Endings.{IsFaultLineBy}
+use Rattle.rp_commands.specs.Gains.{Gains}
 use Rattle.rp_call.specs.RunEndings.{IsRun, known_in}
 
 pub none_risen : HasRisen 0 0 → ⊥

@@ -8,9 +8,9 @@ use Rattle.rp_frame.specs.Rooms.{filled}
 use Rattle.rp_outside.specs.Files.{bytes_under}
 use Rattle.rp_command_line.specs.CommandLine.{Line, file_at, files_of}
 use Rattle.rp_command_line.specs.Words.{denoted_line}
-use Rattle.rp_run.specs.Answers.{AnswersLineBy, Files, IsAcceptedBy, IsRefusedBy, RefusesWithBy}
-use Rattle.rp_run.specs.Endings.{IsEnd}
-use Rattle.rp_run.specs.FaultLines.{memory_line, read_line}
+use Rattle.rp_commands.specs.Answers.{AnswersLineBy, Files, IsAcceptedBy, IsRefusedBy, RefusesWithBy}
+use Rattle.rp_commands.specs.Endings.{IsEnd}
+use Rattle.rp_commands.specs.FaultLines.{memory_line, read_line}
 use Rattle.rp_answers.specs.Printed.{Printed, as_stated}
 use Rattle.rp_answers.specs.StatusNumbers.{status_number}
 use Rattle.rp_answers.specs.declared.status.Status.{Status}

@@ -3,8 +3,8 @@
 use Rattle.std.specs.Prelude.{◌≡◌, List, [], ◌∷◌, ℕ, Option, Some, None, codes, unwrap_or}
 use Rattle.rp_outside.specs.Files.{bytes_under}
 use Rattle.rp_command_line.specs.CommandLine.{Line}
-use Rattle.rp_run.specs.Answers.{AnswersLineBy, Files, RefusesWithBy}
-use Rattle.rp_run.specs.FaultLines.{read_line}
+use Rattle.rp_commands.specs.Answers.{AnswersLineBy, Files, RefusesWithBy}
+use Rattle.rp_commands.specs.FaultLines.{read_line}
 use Rattle.rp_frame.specs.Frames.{Request}
 use Rattle.rp_call.specs.CallEndings.{IsEnded}
 use Rattle.rp_call.specs.declared.ending.Ending.{Ending}

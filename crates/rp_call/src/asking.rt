@@ -9,10 +9,10 @@ use crate::ending::Ending;
 use crate::running::run_over;
 use rp_answers::Edition;
 use rp_command_line::{Line, read_line};
+use rp_commands::Status;
 use rp_frame::{Handed, first_missing};
 use rp_num::NoMemory;
 use rp_outside::MemFile;
-use rp_run::Status;
 use std::alloc::Global;
 
 /// How a call ended, with what is written and what is told.

@@ -7,9 +7,9 @@ ghost use Rattle.rp_call.specs.CallEndings.{IsEndingOf};
 use crate::asking::{Texts, answer_handed, silent};
 use crate::ending::Ending;
 use rp_answers::{AsStated, Edition};
+use rp_commands::Status;
 use rp_frame::{FrameFault, fill, read_frame};
 use rp_num::NoMemory;
-use rp_run::Status;
 use std::alloc::Global;
 
 /// Answers the words of a command line over files in memory. `words` are those after the program's name and `names` those

@@ -2,7 +2,7 @@
 ghost use Rattle.std.specs.Prelude.{◌≡◌, pos};
 ghost use Rattle.rp_call.specs.CallEndings.{ending_number};
 
-use rp_run::Status;
+use rp_commands::Status;
 
 /// How a call ended.
 #[derive(Clone, Copy, Debug, PartialEq, Eq)]

@@ -5,9 +5,9 @@ ghost use Rattle.rp_call.specs.NamedFiles.{IsNamingOf, NamesOfLine, NamesSo};
 
 use crate::ending::Ending;
 use rp_command_line::read_line;
+use rp_commands::Status;
 use rp_frame::{FrameFault, end_names, fill, read_frame};
 use rp_num::NoMemory;
-use rp_run::Status;
 use std::alloc::Global;
 
 /// Tells the files that the words of a command line name, in the order of the words: the names stand one after the

@@ -5,10 +5,10 @@ ghost use Rattle.rp_command_line.specs.Words.{line_in};
 ghost use Rattle.rp_call.specs.RunEndings.{IsRun, known_in};
 
 use rp_answers::Edition;
+use rp_commands::{Status, run_edition};
 use rp_frame::TextSink;
 use rp_num::NoMemory;
 use rp_outside::{MemFile, SureDesk};
-use rp_run::{Status, run_edition};
 use std::alloc::Global;
 
 /// What a run wrote and told, and its status.

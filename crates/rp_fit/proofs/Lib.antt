@@ -7,3 +7,4 @@ mod LevelExamples
 mod StepExamples
 mod WalkLevelExamples
 mod ViolationExamples
+mod OrderExamples

@@ -1,12 +1,13 @@
 -- Violating pairs, tried at small tables.
-use Rattle.std.proofs.Common.{◌≡◌, ◌<◌, ◌+◌, inl, ℕ, zero, suc, List, [], ◌∷◌, refl, subst, arith, Contains, slice_index, slice_index_or}
+use Rattle.std.proofs.Common.{◌≡◌, ◌<◌, ◌+◌, inl, inr, ℕ, zero, suc, List, [], ◌∷◌, refl, subst, arith, Contains, slice_index, slice_index_or}
 use Rattle.rp_evidence.specs.Count.{IsNumberOf}
 use Rattle.rp_evidence.specs.Input.{TableInput}
 use Rattle.rp_evidence.specs.Preference.{IsWeak}
-use Rattle.rp_evidence.specs.Walk.{Reaches}
+use Rattle.rp_evidence.specs.Walk.{IsWalk, LeadsTo, Reaches}
+use Rattle.rp_evidence.proofs.Walks.{starts_below}
 use Rattle.rp_table.specs.Spending.{spending}
 use Rattle.rp_table.specs.Sums.{sum_below}
-use Rattle.rp_fit.specs.Violations.{AreViolationCounts, IsGarpPair, IsInGarpPair, IsNumberOfPairs, IsSarpPair, IsWarpPair, IsWeakGarpPair, SameBundle}
+use Rattle.rp_fit.specs.Violations.{AreViolationCounts, IsGarpPair, IsInGarpPair, IsNumberOfPairs, IsSarpPair, IsWarpPair, IsWeakGarpPair, SameBundle, all_pairs}
 
 -- prices and quantities as rows
 abbrev entry : List (List ℕ) → ℕ → ℕ → ℕ
@@ -235,3 +236,96 @@ same_choice_meets_warp h = h.3 same
     same zero l = refl
     same (suc zero) l = refl
     same (suc (suc g)) l = absurd (omega arith)
+
+-- ---- a choice that nothing contradicts: no pair violates any axiom
+
+abbrev order : TableInput
+order = table 2 2 ((1 ∷ 1 ∷ []) ∷ (1 ∷ 1 ∷ []) ∷ []) ((4 ∷ 4 ∷ []) ∷ (2 ∷ 2 ∷ []) ∷ [])
+
+second_stays : (t : ℕ) (w : List ℕ) → LeadsTo 2 (IsWeak order.cost) 1 t w → 1 ≡ t
+second_stays t [] h = h.1
+second_stays t (zero ∷ w) h = absurd (omega (arith, h.1))
+second_stays t (suc zero ∷ w) h = second_stays t w h.2
+second_stays t (suc (suc x) ∷ w) h = absurd (omega (arith, starts_below 2 (IsWeak order.cost) (suc (suc x)) t w h.2))
+
+second_reaches_nothing : (walk : List ℕ) → ¬ IsWalk 2 (IsWeak order.cost) 1 0 walk
+second_reaches_nothing [] h = h
+second_reaches_nothing (x ∷ w) h =
+    let e = second_stays 0 w (subst (λ z. LeadsTo 2 (IsWeak order.cost) z 0 w) h.0 h.1) in
+    absurd (omega (arith, e))
+
+order_meets_garp : (s t : ℕ) → s < 2 → t < 2 → ¬ IsGarpPair order s t
+order_meets_garp zero zero a b h = h.0 refl
+order_meets_garp (suc zero) (suc zero) a b h = h.0 refl
+order_meets_garp zero (suc zero) a b h = absurd (omega (arith, h.2))
+order_meets_garp (suc zero) zero a b h = second_reaches_nothing h.1.0 h.1.1
+order_meets_garp zero (suc (suc t)) a b h = absurd (omega arith)
+order_meets_garp (suc zero) (suc (suc t)) a b h = absurd (omega arith)
+order_meets_garp (suc (suc s)) t a b h = absurd (omega arith)
+
+order_meets_weak_garp : (s t : ℕ) → s < 2 → t < 2 → ¬ IsWeakGarpPair order s t
+order_meets_weak_garp zero zero a b h = h.0 refl
+order_meets_weak_garp (suc zero) (suc zero) a b h = h.0 refl
+order_meets_weak_garp zero (suc zero) a b h = absurd (omega (arith, h.2))
+order_meets_weak_garp (suc zero) zero a b h = absurd (omega (arith, h.1))
+order_meets_weak_garp zero (suc (suc t)) a b h = absurd (omega arith)
+order_meets_weak_garp (suc zero) (suc (suc t)) a b h = absurd (omega arith)
+order_meets_weak_garp (suc (suc s)) t a b h = absurd (omega arith)
+
+order_meets_warp : (s t : ℕ) → s < 2 → t < 2 → ¬ IsWarpPair order s t
+order_meets_warp zero zero a b h = h.0 refl
+order_meets_warp (suc zero) (suc zero) a b h = h.0 refl
+order_meets_warp zero (suc zero) a b h = absurd (omega (arith, h.2))
+order_meets_warp (suc zero) zero a b h = absurd (omega (arith, h.1))
+order_meets_warp zero (suc (suc t)) a b h = absurd (omega arith)
+order_meets_warp (suc zero) (suc (suc t)) a b h = absurd (omega arith)
+order_meets_warp (suc (suc s)) t a b h = absurd (omega arith)
+
+order_meets_sarp : (s t : ℕ) → s < 2 → t < 2 → ¬ IsSarpPair order s t
+order_meets_sarp zero zero a b h = h.0 refl
+order_meets_sarp (suc zero) (suc zero) a b h = h.0 refl
+order_meets_sarp zero (suc zero) a b h = absurd (omega (arith, h.2))
+order_meets_sarp (suc zero) zero a b h = second_reaches_nothing h.1.0 h.1.1
+order_meets_sarp zero (suc (suc t)) a b h = absurd (omega arith)
+order_meets_sarp (suc zero) (suc (suc t)) a b h = absurd (omega arith)
+order_meets_sarp (suc (suc s)) t a b h = absurd (omega arith)
+
+none_in_a_pair : (s : ℕ) → s < 2 → ¬ IsInGarpPair order s
+none_in_a_pair s l h = elim h.2 [
+  | inl a ↦ order_meets_garp s h.0 l h.1 a
+  | inr b ↦ order_meets_garp h.0 s h.1 l b
+]
+
+counts_of_order : AreViolationCounts order 0 0 0 0 0
+counts_of_order = record {
+  garp_is = no_pairs 2 (IsGarpPair order) order_meets_garp;
+  weak_garp_is = no_pairs 2 (IsWeakGarpPair order) order_meets_weak_garp;
+  warp_is = no_pairs 2 (IsWarpPair order) order_meets_warp;
+  sarp_is = no_pairs 2 (IsSarpPair order) order_meets_sarp;
+  observations_is = none_of 2 (IsInGarpPair order) none_in_a_pair;
+}
+
+-- ---- a bundle of equal cost and one that is cheaper: the second observation is only the second of a pair
+
+abbrev one_way : TableInput
+one_way = table 2 2 ((1 ∷ 1 ∷ []) ∷ (2 ∷ 1 ∷ []) ∷ []) ((1 ∷ 1 ∷ []) ∷ (2 ∷ 0 ∷ []) ∷ [])
+
+first_then_second : IsGarpPair one_way 0 1
+first_then_second =
+    (λ e. absurd (omega (arith, e)), (0 ∷ 1 ∷ [], (refl, (omega arith, omega arith, (omega arith, refl))), omega arith), omega arith)
+
+second_is_first_of_none : (t : ℕ) → t < 2 → ¬ IsGarpPair one_way 1 t
+second_is_first_of_none zero l h = absurd (omega (arith, h.2))
+second_is_first_of_none (suc zero) l h = h.0 refl
+second_is_first_of_none (suc (suc t)) l h = absurd (omega arith)
+
+both_in_one_pair : IsNumberOf 2 (IsInGarpPair one_way) 2
+both_in_one_pair = both_of_two (IsInGarpPair one_way) (1, omega arith, inl first_then_second) (0, omega arith, inr first_then_second)
+
+-- ---- ordered pairs of two observations
+
+two_have_two_pairs : all_pairs 2 ≡ 2
+two_have_two_pairs = refl
+
+three_have_six_pairs : all_pairs 3 ≡ 6
+three_have_six_pairs = refl

@@ -7,3 +7,9 @@ pub mod Steps
 pub mod WalkSums
 pub mod QuasilinearLevel
 pub mod HomotheticLevel
+pub mod Groups
+pub mod KeptEvidence
+pub mod WeightedWalks
+pub mod StepsEvidence
+pub mod LevelsEvidence
+pub mod FitItems

@@ -1,1 +1,2 @@
 pub mod FoundProves
+pub mod Looks

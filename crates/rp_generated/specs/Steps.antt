@@ -1,7 +1,58 @@
--- How many steps a search made that found no evidence (this program's own).
-use Rattle.std.specs.Prelude.{ℕ}
+-- The steps of searches for rational types (this program's own; searches of this kind after Land and Doig 1960).
+use Rattle.std.specs.Prelude.{◌≡◌, ◌≢◌, ◌*◌, ◌<◌, ◌≤◌, ◌⊎◌, ◌++◌, [], ◌∷◌, ℕ, All, List, length, slice_index, sum_by}
+use Rattle.std.specs.List.{AllPairs}
 use Rattle.rp_evidence.specs.declared.random.RandomPart.{RandomPart}
 use Rattle.rp_evidence.specs.declared.random.RandomPart.TheVariants.{Mixture, Violated, Wide}
+use Rattle.rp_limits.specs.declared.generated.TheConstants.{STEPS}
+use Rattle.rp_patch.specs.PartialTypes.{IsRationalBelow}
+use Rattle.rp_patch.specs.Patches.{PatchList, budget_at}
+use Rattle.rp_patch.specs.Types.{IsRationalType}
+
+-- A step is a look at a patch for a type that is begun: of each of the first budgets a patch, without a violation among
+-- them, and after these the patch of the next budget that is looked at.
+pub record IsLook (p : PatchList) (look : List ℕ) : Type 0 where
+  pub begun : List ℕ
+  pub patch : ℕ
+  pub is : look ≡ begun ++ patch ∷ []
+  pub on_budgets : (j : ℕ) → j < length begun → budget_at p (slice_index begun j) ≡ j
+  pub rational : IsRationalBelow p begun
+  pub inside : patch < length p.patches
+  pub next : budget_at p patch ≡ length begun
+
+-- A search looks at no patch twice for a type that is begun.
+pub record IsSearch (p : PatchList) (looks : List (List ℕ)) : Type 0 where
+  pub each : All (IsLook p) looks
+  pub once : AllPairs (λ look later. look ≢ later) looks
+
+-- One of these looks is at the last patch of a rational type.
+abbrev pub HasFound : PatchList → List (List ℕ) → Type 0
+HasFound p [] = ⊥
+HasFound p (look ∷ looks) = IsRationalType p look ⊎ HasFound p looks
+
+-- One of these searches found a rational type.
+abbrev pub SomeHasFound : PatchList → List (List (List ℕ)) → Type 0
+SomeHasFound p [] = ⊥
+SomeHasFound p (looks ∷ searches) = HasFound p looks ⊎ SomeHasFound p searches
+
+-- There is no rational type.
+abbrev pub HasNoRationalType : PatchList → Type 0
+HasNoRationalType p = (type : List ℕ) → ¬ IsRationalType p type
+
+-- The steps of all searches are spent. They have half of the steps that may be made: the other half is the check's.
+abbrev pub AreSpent : ℕ → Type 0
+AreSpent steps = 2 * steps ≡ STEPS
+
+-- A verdict is withheld after so many steps. They are the looks of searches: of one that leaves out nothing, and of one
+-- in each of at most 65,536 rounds. Either all steps are spent, or there is no rational type, or else some search found
+-- one. In the last case the program over the found types ended by its rounds, its pivots or the width of its numbers, or
+-- the checker does not take what it shows in the steps that are left: which of these, and when, is not stated here.
+pub record IsWithheldAfter (p : PatchList) (steps : ℕ) : Type 0 where
+  pub searches : List (List (List ℕ))
+  pub rounds : length searches ≤ 65537
+  pub each : All (IsSearch p) searches
+  pub looks : sum_by length searches ≡ steps
+  pub half : 2 * steps ≤ STEPS
+  pub cause : AreSpent steps ⊎ (HasNoRationalType p ⊎ SomeHasFound p searches)
 
 -- Of the steps after which a verdict is withheld this holds.
 abbrev pub WithheldAt : RandomPart → (ℕ → Type 0) → Type 0

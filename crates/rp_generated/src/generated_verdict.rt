@@ -1,7 +1,8 @@
 //! The verdict on random choices by generated types.
 ghost use Rattle.std.specs.Prelude.{◌≡◌, ◌≤◌, true, IfOk, IfSome, Ok};
 ghost use Rattle.rp_check_mixture.specs.RandomWithin.{RandomFailsWithin};
-ghost use Rattle.rp_generated.specs.Steps.{WithheldAt};
+ghost use Rattle.rp_generated.specs.Steps.{IsWithheldAfter, WithheldAt};
+ghost use Rattle.rp_patch.specs.Patches.{PatchList};
 ghost use Rattle.rp_patch.specs.RandomEvidence.{ProvesRandom, ShowsShare};
 ghost use Rattle.rp_persons.specs.SaysRandom.{SaysOfChoices};
 
@@ -25,7 +26,7 @@ fn is_nothing(found: Result<(), Failure>) -> bool
 
 /// Whether evidence has a verdict.
 fn has_verdict(part: &RandomPart) -> bool
-    ensures { result ≡ true → WithheldAt part.now (λ step. step ≤ STEPS) }
+    ensures { result ≡ true → (p : PatchList) → WithheldAt part.now (IsWithheldAfter p) }
 {
     match part {
         RandomPart::Wide { .. } => false,
@@ -45,9 +46,9 @@ fn is_taken(patches: &Patches, part: &RandomPart, left: u64) -> bool
 /// The evidence where the checker takes it in the steps that are left after so many, and else that the verdict is
 /// withheld after these.
 fn if_taken(patches: &Patches, found: Option<RandomPart>, steps: u64) -> RandomPart
-    requires { steps ≤ STEPS }
+    requires { IsWithheldAfter patches.now steps }
     ensures accepted { RandomFailsWithin patches.now patches.now.total result STEPS (Ok tt) }
-    ensures steps { WithheldAt result (λ step. step ≤ STEPS) }
+    ensures steps { WithheldAt result (IsWithheldAfter patches.now) }
 {
     match found {
         Some(part) if has_verdict(&part) && is_taken(patches, &part, STEPS - steps) => part,
@@ -56,16 +57,16 @@ fn if_taken(patches: &Patches, found: Option<RandomPart>, steps: u64) -> RandomP
 }
 
 /// Whether some mixture of rational types makes the choices, by types that are generated: a mixture; a partial one of
-/// the greatest share with weights of the patches; or, where neither is found, how many steps the search made, at most
-/// those of `rp_limits`. All rational types are meant, however many there are, and what is given says of persons what it
-/// does where all are listed.
+/// the greatest share with weights of the patches; or, where neither is found, how many steps the searches made, at most
+/// half of those of `rp_limits`. All rational types are meant, however many there are, and what is given says of persons
+/// what it does where all are listed.
 pub fn generated(alloc: Global, patches: &Patches) -> Result<RandomPart, NoMemory>
     ensures proves { IfOk result (ProvesRandom patches.now patches.now.total) }
     ensures share { IfOk result (ShowsShare patches.now) }
     ensures says { IfOk result (SaysOfChoices patches.now) }
     ensures accepted { IfOk result (λ part.
         RandomFailsWithin patches.now patches.now.total part STEPS (Ok tt)) }
-    ensures steps { IfOk result (λ part. WithheldAt part (λ step. step ≤ STEPS)) }
+    ensures steps { IfOk result (λ part. WithheldAt part (IsWithheldAfter patches.now)) }
 {
     prove!(patches.budgets() >= 1);
     let found = rounds(alloc, patches)?;

@@ -6,7 +6,9 @@
 mod compatible;
 mod generated_verdict;
 mod lightest;
+mod looked;
 mod parts;
+mod plain;
 mod prices;
 mod rounds;
 

@@ -1,53 +1,44 @@
 //! The search for light rational types, depth first over the budgets, the lightest patch of each first. A partial type
 //! is left where it has a violation, and where it cannot get lighter than the lightest type so far by patches that make
 //! no violation with one of its own.
-ghost use Rattle.std.specs.Prelude.{◌≡◌, ◌<◌, ◌≤◌, ◌+◌, IfSome, false};
+ghost use Rattle.std.specs.Prelude.{◌≡◌, ◌<◌, ◌≤◌, ◌+◌, ◌*◌, ◌++◌, ◌∷◌, [], IfOk, IfSome};
+ghost use Rattle.std.specs.Prelude.{length};
+ghost use Rattle.rp_generated.specs.InnerLooks.{AreListed, Looked, LookedFrom};
 ghost use Rattle.rp_limits.specs.declared.generated.TheConstants.{STEPS};
-ghost use Rattle.rp_patch.specs.PartialTypes.{IsPartialType};
+ghost use Rattle.rp_patch.specs.PartialTypes.{IsPartialType, taken_in};
 
 use crate::compatible::{Compatible, PatchSet};
+use crate::looked::Lightest;
 use crate::prices::Prices;
-use rp_limits::generated::STEPS;
 use rp_limits::table::BUDGETS;
 use rp_num::NoMemory;
 use rp_patch::Patches;
 use rp_patch::partial_type::PartialType;
 use std::alloc::Global;
 
-/// The most steps that all searches of a run make, half of those that may be made: the check looks once more for a
-/// type that is too light, in the steps that are left.
-pub(crate) const SEARCH_STEPS: u64 = STEPS / 2;
-
-/// The types that were found, each lighter than the one before it; what the last of them weighs, or else what was asked
-/// to be passed below; and how many patches all searches of the run looked at for a partial type.
-#[derive(Drop)]
-pub(crate) struct Lightest {
-    pub(crate) weight: u128,
-    pub(crate) types: Vec<Vec<u32>>,
-    pub(crate) steps: u64,
-    ghost few: { steps ≤ STEPS },
-}
-
 impl Lightest {
-    /// Whether no steps are left.
-    pub(crate) fn is_given_up(&self) -> bool
-        ensures { result ≡ false → self.now.steps < STEPS }
+    /// Looks at a patch of the next budget for a partial type, which is a step.
+    fn look(
+        &mut self,
+        patches: &Patches,
+        prices: &Prices,
+        compatible: &Compatible,
+        begun: &Begun,
+        i: u32,
+    ) -> Option<Begun>
+        requires part { IsPartialType patches.now begun.now.partial }
+        requires patch { i < length patches.now.patches }
+        requires left { 2 * self.old.steps + 2 ≤ STEPS }
+        ensures counted { self.new.steps ≡ self.old.steps + 1 }
+        ensures types { self.new.types ≡ self.old.types }
+        ensures part { IfSome result (λ longer. IsPartialType patches.now longer.partial) }
+        ensures taken { IfSome result (λ longer.
+            longer.partial.taken ≡ begun.now.partial.taken + 1) }
+        ensures longer { IfSome result (λ longer.
+            taken_in longer.partial ≡ taken_in begun.now.partial ++ i ∷ []) }
     {
-        self.steps >= SEARCH_STEPS
-    }
-
-    /// Counts one patch more, where a step is left.
-    fn count(&mut self) {
-        if !self.is_given_up() {
-            self.steps += 1;
-        }
-    }
-
-    /// Takes a type that is lighter.
-    fn take(&mut self, alloc: Global, numbers: &[u32], weight: u128) -> Result<(), NoMemory> {
-        self.types.push(Vec::from_slice(alloc, numbers)?)?;
-        self.weight = weight;
-        Ok(())
+        self.steps += 1;
+        begun.with(patches, prices, compatible, i, self.weight)
     }
 }
 
@@ -62,7 +53,8 @@ struct Begun {
 impl Begun {
     /// No patch taken yet.
     fn new(patches: &Patches) -> Begun
-        ensures { IsPartialType patches.now result.partial }
+        ensures part { IsPartialType patches.now result.partial }
+        ensures none { taken_in result.partial ≡ [] }
     {
         Begun {
             partial: PartialType::new(patches),
@@ -80,12 +72,15 @@ impl Begun {
         i: u32,
         below: u128,
     ) -> Option<Begun>
-        requires { IsPartialType patches.now self.now.partial }
+        requires part { IsPartialType patches.now self.now.partial }
+        requires patch { i < length patches.now.patches }
         ensures part { IfSome result (λ begun. IsPartialType patches.now begun.partial) }
         ensures taken { IfSome result (λ begun.
             begun.partial.taken ≡ self.now.partial.taken + 1) }
+        ensures longer { IfSome result (λ begun.
+            taken_in begun.partial ≡ taken_in self.now.partial ++ i ∷ []) }
     {
-        if i >= patches.count() || !self.fit.has(i) {
+        if !self.fit.has(i) {
             return None;
         }
         let weight = self.weight.wrapping_add(prices.of(i));
@@ -103,7 +98,8 @@ impl Begun {
     }
 }
 
-/// Looks through the types that begin with a partial type.
+/// Looks through the types that begin with a partial type. Each step that it counts is a look for one of them, and none
+/// is made twice.
 fn seek(
     alloc: Global,
     patches: &Patches,
@@ -112,7 +108,10 @@ fn seek(
     begun: &Begun,
     lightest: &mut Lightest,
 ) -> Result<(), NoMemory>
-    requires { IsPartialType patches.now begun.now.partial }
+    requires part { IsPartialType patches.now begun.now.partial }
+    requires listed { AreListed patches.now prices.now }
+    ensures { IfOk result (λ _.
+        Looked patches.now (taken_in begun.now.partial) lightest.old lightest.new) }
 {
     prove!(patches.budgets() <= BUDGETS);
     let taken = begun.partial.taken;
@@ -122,13 +121,13 @@ fn seek(
     let Some(to_come) = prices.least_after(taken, &begun.fit) else {
         return Ok(());
     };
-    for i in prices.on(taken) {
-        let weight = begun.weight.wrapping_add(prices.of(*i));
+    let list = prices.on(taken);
+    for k in 0..list.len() {
+        let weight = begun.weight.wrapping_add(prices.of(list[k]));
         if lightest.is_given_up() || weight.wrapping_add(to_come) >= lightest.weight {
             return Ok(());
         }
-        lightest.count();
-        if let Some(longer) = begun.with(patches, prices, compatible, *i, lightest.weight) {
+        if let Some(longer) = lightest.look(patches, prices, compatible, begun, list[k]) {
             seek(alloc, patches, prices, compatible, &longer, lightest)?;
         }
     }
@@ -144,7 +143,9 @@ pub(crate) fn light_types(
     below: u128,
     steps: u64,
 ) -> Result<Lightest, NoMemory>
-    requires { steps ≤ STEPS }
+    requires few { 2 * steps ≤ STEPS }
+    requires listed { AreListed patches.now prices.now }
+    ensures { IfOk result (LookedFrom patches.now steps) }
 {
     let mut lightest = Lightest {
         weight: below,

@@ -1,5 +1,7 @@
 //! Prices of the patches, as a search over rational types asks for them.
-ghost use Rattle.std.specs.Prelude.{◌≤◌, length};
+ghost use Rattle.std.specs.Prelude.{◌≤◌, IfOk, length};
+ghost use Rattle.rp_generated.specs.InnerLooks.{AreListed, ArePatchesOn};
+ghost use Rattle.rp_patch.specs.Patches.{PatchList};
 
 use crate::compatible::PatchSet;
 use rp_num::NoMemory;
@@ -40,7 +42,9 @@ fn patches_on(
     patches: &Patches,
     prices: &[u64],
     j: u32,
-) -> Result<Vec<u32>, NoMemory> {
+) -> Result<Vec<u32>, NoMemory>
+    ensures { IfOk result (λ list. ArePatchesOn patches.now j list.items) }
+{
     let mut list = Vec::new(alloc);
     for i in 0..patches.count() {
         if patches.budget_of(i) == j {
@@ -57,7 +61,9 @@ impl Prices {
         alloc: Global,
         patches: &Patches,
         prices: Vec<u64>,
-    ) -> Result<Prices, NoMemory> {
+    ) -> Result<Prices, NoMemory>
+        ensures { IfOk result (AreListed patches.now) }
+    {
         let mut on_budget = Vec::new(alloc);
         for j in 0..patches.budgets() {
             on_budget.push(patches_on(alloc, patches, prices.as_slice(), j)?)?;
@@ -75,7 +81,9 @@ impl Prices {
     }
 
     /// The patches of a budget, the lightest first.
-    pub(crate) fn on(&self, budget: u32) -> &[u32] {
+    pub(crate) fn on(&self, budget: u32) -> &[u32]
+        ensures { (p : PatchList) → AreListed p self.now → ArePatchesOn p budget result.now }
+    {
         match self.on_budget.get(budget as usize) {
             Some(list) => list.as_slice(),
             None => &[],

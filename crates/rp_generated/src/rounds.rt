@@ -1,11 +1,15 @@
 //! Rounds of the search: the program over the types so far is solved, and types that are light by its prices are added,
 //! until there is none, or a mixture of these types has the whole total.
-ghost use Rattle.std.specs.Prelude.{◌≤◌};
+ghost use Rattle.std.specs.Prelude.{◌*◌, ◌≤◌, IfOk, IfSome};
+ghost use Rattle.rp_generated.specs.InnerLooks.{AreFirst, AreListed, LookedFrom, WereMadeIn};
+ghost use Rattle.rp_generated.specs.Steps.{IsWithheldAfter, SomeHasFound};
 ghost use Rattle.rp_limits.specs.declared.generated.TheConstants.{STEPS};
 
 use crate::compatible::Compatible;
-use crate::lightest::{Lightest, light_types};
+use crate::lightest::light_types;
+use crate::looked::Lightest;
 use crate::parts::{mixture, violation};
+use crate::plain::first_type;
 use crate::prices::Prices;
 use rp_evidence::RandomPart;
 use rp_num::NoMemory;
@@ -21,7 +25,6 @@ const MOST_ROUNDS: u32 = 65_536;
 pub(crate) struct Found {
     pub(crate) part: Option<RandomPart>,
     pub(crate) steps: u64,
-    ghost few: { steps ≤ STEPS },
 }
 
 /// The program of a row for each patch with its units, and no types yet.
@@ -34,11 +37,9 @@ fn first_program(alloc: Global, patches: &Patches) -> Result<Grown, NoMemory> {
 }
 
 /// The prices of the patches; none where one is negative or passes a word.
-fn prices_of(
-    alloc: Global,
-    patches: &Patches,
-    program: &Grown,
-) -> Result<Option<Prices>, NoMemory> {
+fn prices_of(alloc: Global, patches: &Patches, program: &Grown) -> Result<Option<Prices>, NoMemory>
+    ensures { IfOk result (λ found. IfSome found (AreListed patches.now)) }
+{
     let mut prices = Vec::new(alloc);
     for i in 0..patches.count() {
         match u64::try_from(program.price(i as usize)) {
@@ -65,7 +66,8 @@ fn found_by(
     program: &Grown,
     steps: u64,
 ) -> Result<Option<Lightest>, NoMemory>
-    requires { steps ≤ STEPS }
+    requires { 2 * steps ≤ STEPS }
+    ensures { IfOk result (λ found. IfSome found (LookedFrom patches.now steps)) }
 {
     let Some(prices) = prices_of(alloc, patches, program)? else {
         return Ok(None);
@@ -74,20 +76,47 @@ fn found_by(
     Ok(Some(light_types(alloc, patches, &prices, compatible, den, steps)?))
 }
 
-/// The rounds.
-pub(crate) fn rounds(alloc: Global, patches: &Patches) -> Result<Found, NoMemory> {
-    let compatible = Compatible::make(alloc, patches)?;
-    let mut program = first_program(alloc, patches)?;
-    let mut steps = 0;
-    for _ in 0..MOST_ROUNDS {
+/// The types that the rounds begin with: those that the search with the prices of no types finds, or else the first that
+/// the search finds which leaves out nothing.
+fn first_types(
+    alloc: Global,
+    patches: &Patches,
+    compatible: &Compatible,
+    program: &Grown,
+) -> Result<Lightest, NoMemory>
+    ensures { IfOk result (AreFirst patches.now) }
+{
+    prove!(patches.budgets() >= 1);
+    let Some(light) = found_by(alloc, patches, compatible, program, 0)? else {
+        return first_type(alloc, patches, 0);
+    };
+    if light.is_given_up() || !light.types.is_empty() {
+        return Ok(light);
+    }
+    first_type(alloc, patches, light.steps)
+}
+
+/// The rounds after the first, over a program of the types that this found.
+fn later_rounds(
+    alloc: Global,
+    patches: &Patches,
+    compatible: &Compatible,
+    program: &mut Grown,
+    first: u64,
+) -> Result<Found, NoMemory>
+    requires { WereMadeIn patches.now 2 first (SomeHasFound patches.now) }
+    ensures { IfOk result (λ found. IsWithheldAfter patches.now found.steps) }
+{
+    let mut steps = first;
+    for _round in 1..MOST_ROUNDS {
         if !program.solve(alloc, patches.total())? {
             return Ok(Found { part: None, steps });
         }
         if program.has(patches.total()) {
-            let part = mixture(alloc, &program)?;
+            let part = mixture(alloc, program)?;
             return Ok(Found { part, steps });
         }
-        let Some(light) = found_by(alloc, patches, &compatible, &program, steps)? else {
+        let Some(light) = found_by(alloc, patches, compatible, program, steps)? else {
             return Ok(Found { part: None, steps });
         };
         steps = light.steps;
@@ -95,10 +124,29 @@ pub(crate) fn rounds(alloc: Global, patches: &Patches) -> Result<Found, NoMemory
             return Ok(Found { part: None, steps });
         }
         if light.types.is_empty() {
-            let part = violation(alloc, &program)?;
+            let part = violation(alloc, program)?;
             return Ok(Found { part, steps });
         }
-        add_all(alloc, &mut program, light.types.as_slice())?;
+        add_all(alloc, program, light.types.as_slice())?;
     }
     Ok(Found { part: None, steps })
+}
+
+/// The rounds. The steps that they tell were made.
+pub(crate) fn rounds(alloc: Global, patches: &Patches) -> Result<Found, NoMemory>
+    ensures { IfOk result (λ found. IsWithheldAfter patches.now found.steps) }
+{
+    let compatible = Compatible::make(alloc, patches)?;
+    let mut program = first_program(alloc, patches)?;
+    let light = first_types(alloc, patches, &compatible, &program)?;
+    let steps = light.steps;
+    if light.is_given_up() {
+        return Ok(Found { part: None, steps });
+    }
+    if light.types.is_empty() {
+        let part = violation(alloc, &program)?;
+        return Ok(Found { part, steps });
+    }
+    add_all(alloc, &mut program, light.types.as_slice())?;
+    later_rounds(alloc, patches, &compatible, &mut program, steps)
 }

@@ -2,3 +2,4 @@ pub mod WordLemmas
 pub mod CauseLemmas
 pub mod TurnLemmas
 pub mod EndLemmas
+pub mod SameRows

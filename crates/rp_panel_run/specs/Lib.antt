@@ -4,3 +4,4 @@ pub mod Told
 pub mod Endings
 pub mod Turns
 pub mod InnerCauses
+pub mod Alike

@@ -1,6 +1,7 @@
 //! Laws of answers and refusals, also over files of which nothing is known. Each function is empty: its contract is the
 //! law.
-ghost use Rattle.std.specs.Prelude.{◌≡◌, ℕ, List, [], ◌∷◌};
+ghost use Rattle.std.specs.Prelude.{◌≡◌, ℕ, List, [], ◌∷◌, None, false};
+ghost use Rattle.rp_panel_run.specs.Alike.{AreSameButWithheld};
 ghost use Rattle.rp_panel_run.specs.Endings.{AnswersWith, Contents, Files, IsRefusal, IsTextOf};
 ghost use Rattle.rp_panel_run.specs.Endings.{RefusesWith};
 ghost use Rattle.rp_panel_run.specs.Questions.{Asking};
@@ -24,4 +25,16 @@ pub fn bytes_decide_what_is_told()
         → IsTextOf a held text told → IsTextOf a held other_text other → told ≡ other }
     ensures one_line { (a : Asking) (held : Contents) (line other : List ℕ)
         → IsRefusal a held line → IsRefusal a held other → line ≡ other }
+{}
+
+/// The bytes of a long file decide the table of verdicts: there is one text of it. Where other evidence is looked for than
+/// the stated one, two texts tell the same of each household and of each record that is refused, but that one may withhold
+/// the homothetic verdict which the other tells: how often such evidence is found is not fixed.
+pub fn bytes_decide_the_verdicts()
+    ensures one_text { (a : Asking) (held : Contents) (text told other_text other : List ℕ)
+        → a.bounds ≡ None → a.wide ≡ false → IsTextOf a held text told
+        → IsTextOf a held other_text other → text ≡ other_text }
+    ensures one_verdict { (a : Asking) (held : Contents) (text told other_text other : List ℕ)
+        → a.bounds ≡ None → IsTextOf a held text told → IsTextOf a held other_text other
+        → AreSameButWithheld a.kept text other_text }
 {}

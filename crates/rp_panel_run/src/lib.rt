@@ -10,7 +10,9 @@ mod status;
 mod telling;
 mod words;
 
-pub use laws::{bytes_decide_what_is_told, not_everything_answers_or_refuses};
+pub use laws::{
+    bytes_decide_the_verdicts, bytes_decide_what_is_told, not_everything_answers_or_refuses,
+};
 pub use running::run_panel;
 pub use status::Status;
 pub use telling::unread_line;

@@ -1,24 +1,9 @@
-//! The top of the suite: what a command line answers, from the words and the files that they name.
+//! The stated edition of the program, which prints what is stated and withholds what passes the stated widths.
 #![tactic(auto)]
 
-mod answer;
-mod contents;
-mod fault_text;
-mod faults;
-mod files;
-mod laws;
-mod patches;
 mod running;
 mod sure;
-mod tables;
-mod telling;
-mod told;
-mod units;
 
-pub use laws::{
-    bytes_denote_one_input_or_refusal, listed_choices_are_denoted_alike,
-    patches_are_of_choices_in_files,
-};
-pub use rp_answers::{Status, trial_table};
-pub use running::{run, run_edition};
+pub use rp_commands::Status;
+pub use running::run;
 pub use sure::run_surely;

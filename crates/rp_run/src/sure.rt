@@ -2,9 +2,9 @@
 ghost use Rattle.std.specs.Prelude.{◌≡◌, ◌⊎◌, Some};
 ghost use Rattle.rp_command_line.specs.CommandLine.{Line as Asked};
 ghost use Rattle.rp_command_line.specs.Words.{line_in};
-ghost use Rattle.rp_run.specs.Answers.{IsAccepted, IsRefused, all_known};
-ghost use Rattle.rp_run.specs.Calls.{AnswersUsage, AsksInTurn, GivesCheckVerdict, LeavesTheRest};
-ghost use Rattle.rp_run.specs.Endings.{IsEnd};
+ghost use Rattle.rp_commands.specs.Answers.{IsAccepted, IsRefused, all_known};
+ghost use Rattle.rp_commands.specs.Calls.{AnswersUsage, AsksInTurn, GivesCheckVerdict, LeavesTheRest};
+ghost use Rattle.rp_commands.specs.Endings.{IsEnd};
 
 use crate::running::run;
 use rp_answers::Status;

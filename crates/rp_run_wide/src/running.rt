@@ -6,17 +6,17 @@ ghost use Rattle.rp_command_line.specs.CommandLine.{Line as Asked};
 ghost use Rattle.rp_command_line.specs.Words.{line_in};
 ghost use Rattle.rp_command_line.specs.Commands.{program};
 ghost use Rattle.rp_command_line.specs.Shapes.{HasShape, shape_of};
-ghost use Rattle.rp_run.specs.Answers.{IsAcceptedBy, IsRefusedBy};
-ghost use Rattle.rp_run.specs.Calls.{AnswersUsage, AsksByName, AsksInTurn, GivesCheckVerdictBy};
-ghost use Rattle.rp_run.specs.Calls.{IsWrittenBy, LeavesTheRest};
-ghost use Rattle.rp_run.specs.Calls.{TellsWhyBy};
-ghost use Rattle.rp_run.specs.Endings.{IsEnd, Rose, NoneRose};
-ghost use Rattle.rp_run.specs.Turns.{AsksForFirst};
+ghost use Rattle.rp_commands.specs.Answers.{IsAcceptedBy, IsRefusedBy};
+ghost use Rattle.rp_commands.specs.Calls.{AnswersUsage, AsksByName, AsksInTurn, GivesCheckVerdictBy};
+ghost use Rattle.rp_commands.specs.Calls.{IsWrittenBy, LeavesTheRest};
+ghost use Rattle.rp_commands.specs.Calls.{TellsWhyBy};
+ghost use Rattle.rp_commands.specs.Endings.{IsEnd, Rose, NoneRose};
+ghost use Rattle.rp_commands.specs.Turns.{AsksForFirst};
 ghost use Rattle.rp_run_wide.specs.Filling.{as_filled};
 
 use crate::edition::Filled;
+use rp_commands::{Status, run_edition};
 use rp_outside::{Desk, Sink};
-use rp_run::{Status, run_edition};
 use std::alloc::Global;
 
 /// Answers the words of a command line as `run` does, with what is withheld filled where evidence is found, and choices

@@ -1,8 +1,8 @@
 //! The command `rp-wide`: it hands the words, the files and the standard streams of the system to `run_wide`.
 #![tactic(auto)]
 
+use rp_commands::Status;
 use rp_outside::{FileDesk, StdSink};
-use rp_run::Status;
 use rp_run_wide::run_wide;
 use std::env;
 use std::io::ErrorKind;

@@ -1,8 +1,8 @@
-//! Tests of random choices, from their patches to their mixtures, and of the checkers: forged evidence on these, on the
-//! tests of a table, and on bounds of demand and welfare.
+//! Tests of the checkers: forged evidence on the tests of a table and on bounds of demand and welfare; and technologies,
+//! with evidence on both axioms and on what outputs cost.
 #![tactic(auto)]
 
 #[cfg(test)]
 mod checker;
 #[cfg(test)]
-mod mixtures;
+mod cost;

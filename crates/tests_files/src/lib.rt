@@ -1,10 +1,10 @@
-//! Tests of what files say: tables, prices, budgets and choices; choices from menus with what is asked of them; and
-//! evidence on a money pump, on menus and on cost that was altered in one way.
+//! Tests of what files say: tables, prices, budgets and choices; long files with the tables of their households; and
+//! rows, one for each household of a long file.
 #![tactic(auto)]
 
 #[cfg(test)]
-mod altered;
-#[cfg(test)]
-mod menus;
+mod long_files;
 #[cfg(test)]
 mod readers;
+#[cfg(test)]
+mod rows;

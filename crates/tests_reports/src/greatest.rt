@@ -1,6 +1,6 @@
 //! Reports on tables of the greatest numbers.
 use crate::long_tables::all_numbers;
-use rp_run::Status;
+use rp_commands::Status;
 use std::alloc::Global;
 use std::process::Abort;
 use std::test::Fail;

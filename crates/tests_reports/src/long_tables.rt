@@ -1,5 +1,5 @@
 //! Reports on tables of the most observations.
-use rp_run::Status;
+use rp_commands::Status;
 use std::alloc::Global;
 use std::test::Fail;
 use tests_support::{joined, prints, repeated, run_over};

@@ -1,7 +1,7 @@
 //! Reports of `trial`.
 ghost use Rattle.std.specs.Prelude.{◌≤◌};
 
-use rp_run::trial_table;
+use rp_commands::trial_table;
 use std::alloc::Global;
 use std::test::Fail;
 use tests_support::prints;

@@ -1,6 +1,6 @@
 //! How `run` is to end, row by row.
 use crate::running::{is_ended, run_over};
-use rp_run::Status;
+use rp_commands::Status;
 use std::alloc::Global;
 use std::test::Fail;
 

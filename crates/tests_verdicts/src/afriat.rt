@@ -1,9 +1,9 @@
 //! Tests of Afriat numbers and of the utilities that they give, at levels too, and of what passes their width.
+use crate::bounds::shared::are_quantities;
 use crate::shared::table_in;
 use rp_afriat::{afriat, utility_at};
 use rp_evidence::AfriatPart;
 use rp_garp::GarpTest;
-use rp_limits::table::LARGEST;
 use std::alloc::Global;
 use std::process::Abort;
 use std::test::Fail;
@@ -56,7 +56,7 @@ fn utility(
     let table = table_in(alloc, file)?;
     let tested = GarpTest::of(alloc, &table)?;
     assert!(rt; bundle.len() == table.goods() as usize);
-    assert!(rt; bundle.iter().all(|q| *q <= LARGEST));
+    assert!(rt; are_quantities(bundle));
     match afriat(alloc, &tested)? {
         AfriatPart::Model(numbers) => Ok(Some(utility_at(&table, &tested.costs, &numbers, bundle))),
         _ => Ok(None),

@@ -1,5 +1,5 @@
 //! Tests of demand at new prices and of the welfare bounds, on worked tables.
 
 mod demands;
-mod shared;
+pub(crate) mod shared;
 mod welfare;

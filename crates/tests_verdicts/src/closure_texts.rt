@@ -22,12 +22,6 @@ pub(crate) fn chain(alloc: Global, n: u32) -> Result<String, Fail> {
     Ok(text)
 }
 
-/// Puts a bit at the end.
-pub(crate) fn push_bit(text: &mut String, bit: bool) -> Result<(), Fail> {
-    text.push_str(if bit { "1" } else { "0" })?;
-    Ok(())
-}
-
 /// Which of n observations reach which, row by row.
 pub(crate) fn rows_of(alloc: Global, closure: &Closure, n: u32) -> Result<String, Fail>
     requires { closure.now.n ≡ n }
@@ -38,7 +32,7 @@ pub(crate) fn rows_of(alloc: Global, closure: &Closure, n: u32) -> Result<String
             rows.push_str(" ")?;
         }
         for t in 0..n {
-            push_bit(&mut rows, closure.reaches(s, t))?;
+            rows.push_str(if closure.reaches(s, t) { "1" } else { "0" })?;
         }
     }
     Ok(rows)

@@ -1,4 +1,5 @@
 //! Tests of the efficiency index and its evidence, on worked tables and near the greatest costs.
+use crate::bounds::shared::push_list;
 use crate::shared::costs_of;
 use rp_effic::efficiency;
 use rp_evidence::{Efficiency, Garp};
@@ -23,22 +24,6 @@ fn text_of(alloc: Global, found: &Efficiency) -> Result<String, Fail> {
         Garp::Cycle(cycle) => push_list(alloc, &mut text, ", cycle", cycle.as_slice(), 1)?,
     }
     Ok(text)
-}
-
-/// A word, and the numbers with so much added to each.
-fn push_list(
-    alloc: Global,
-    text: &mut String,
-    word: &str,
-    numbers: &[u32],
-    more: u8,
-) -> Result<(), Fail> {
-    text.push_str(word)?;
-    for number in numbers {
-        let shown = u64::from(*number) + u64::from(more);
-        text.push_str(format!(in alloc; " {shown}")?.as_str())?;
-    }
-    Ok(())
 }
 
 /// A table, and its index with the evidence.

@@ -1,6 +1,6 @@
 //! Tests of revealed preference, steps, closures and shortest walks, at one level for all and at levels of the
 //! observations' own; of verdicts on costs, with and without evidence, and of what they stand on: the axiom, Afriat
-//! numbers and utilities, the index with its search by halving, and walks with totals; and of demand at new prices and
+//! numbers and utilities, the index, and walks with totals; and of demand at new prices and
 //! the welfare bounds.
 #![tactic(auto)]
 
@@ -16,8 +16,6 @@ mod closure_texts;
 mod closures;
 #[cfg(test)]
 mod garp;
-#[cfg(test)]
-mod halving;
 #[cfg(test)]
 mod indices;
 #[cfg(test)]

@@ -1,5 +1,5 @@
 //! Tests of steps, closures and shortest walks on tables whose observations have levels of their own.
-use crate::closure_texts::{push_bit, rows_of};
+use crate::closure_texts::rows_of;
 use crate::shared::costs_of;
 use rp_pref::{Closure, own_strict, own_walk, own_weak};
 use rp_table::Costs;
@@ -34,7 +34,7 @@ fn steps_of(alloc: Global, costs: &Costs, strict: bool) -> Result<String, Fail> 
             } else {
                 own_weak(costs, s, t)
             };
-            push_bit(&mut rows, is_step)?;
+            rows.push_str(if is_step { "1" } else { "0" })?;
         }
     }
     Ok(rows)

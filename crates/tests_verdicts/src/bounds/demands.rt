@@ -2,7 +2,6 @@
 use crate::bounds::shared::{are_prices, push_list, push_number, push_numbers};
 use rp_evidence::{Bound, DemandPart, GoodBounds, Point};
 use rp_garp::GarpTest;
-use rp_num::Frac;
 use rp_support::demand;
 use rp_text::read_table;
 use std::alloc::Global;
@@ -24,19 +23,16 @@ fn push_point(alloc: Global, text: &mut String, point: &Point) -> Result<(), Fai
 /// The fraction of a shown bound.
 fn push_bound(alloc: Global, text: &mut String, bound: &Bound) -> Result<(), Fail> {
     match bound {
-        Bound::Shown { value, .. } => push_fraction(alloc, text, *value),
+        Bound::Shown { value, .. } => {
+            let (num, den) = (value.num(), value.den());
+            text.push_str(format!(in alloc; " {num}/{den}")?.as_str())?;
+            Ok(())
+        }
         Bound::Wide { step } => {
             text.push_str(" withheld at")?;
             push_number(alloc, text, u64::from(*step))
         }
     }
-}
-
-/// A fraction, with a space before it.
-fn push_fraction(alloc: Global, text: &mut String, value: Frac) -> Result<(), Fail> {
-    let (num, den) = (value.num(), value.den());
-    text.push_str(format!(in alloc; " {num}/{den}")?.as_str())?;
-    Ok(())
 }
 
 /// The bounds of a good.
@@ -45,17 +41,6 @@ fn push_good(alloc: Global, text: &mut String, good: &GoodBounds) -> Result<(), 
     push_bound(alloc, text, &good.lower)?;
     text.push_str(" to")?;
     push_bound(alloc, text, &good.upper)
-}
-
-/// A word, and the observations of a list.
-fn push_observations(
-    alloc: Global,
-    text: &mut String,
-    word: &str,
-    list: &[u32],
-) -> Result<(), Fail> {
-    text.push_str(word)?;
-    push_list(alloc, text, list, 0)
 }
 
 /// What is found, in one line.
@@ -68,15 +53,15 @@ fn told(alloc: Global, part: &DemandPart) -> Result<String, Fail> {
             inner,
             goods,
         } => {
-            push_observations(alloc, &mut text, "below", below.as_slice())?;
-            push_observations(alloc, &mut text, ", strict", strict.as_slice())?;
+            push_list(alloc, &mut text, "below", below.as_slice(), 0)?;
+            push_list(alloc, &mut text, ", strict", strict.as_slice(), 0)?;
             push_point(alloc, &mut text, inner)?;
             for good in goods.as_slice() {
                 push_good(alloc, &mut text, good)?;
             }
         }
         DemandPart::NoModel(walk) => {
-            push_observations(alloc, &mut text, "no model", walk.as_slice())?;
+            push_list(alloc, &mut text, "no model", walk.as_slice(), 0)?;
         }
     }
     Ok(text)

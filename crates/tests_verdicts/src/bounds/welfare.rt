@@ -71,8 +71,8 @@ fn told(alloc: Global, part: &WelfarePart) -> Result<String, Fail> {
             Ok(format!(in alloc; "upper {upper} at {at} lower {lower}")?)
         }
         WelfarePart::NoModel(walk) => {
-            let mut text = String::from_str(alloc, "violation")?;
-            push_list(alloc, &mut text, walk.as_slice(), 1)?;
+            let mut text = String::new(alloc);
+            push_list(alloc, &mut text, "violation", walk.as_slice(), 1)?;
             Ok(text)
         }
     }

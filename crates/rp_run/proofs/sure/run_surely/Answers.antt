@@ -1,4 +1,4 @@
-use Rattle.rp_run.proofs.RunLemmas.{none_risen}
+use Rattle.rp_commands.proofs.RunLemmas.{none_risen}
 use Rattle.rp_run.proofs.sure.run_surely.Goals as goal
 
 pub returns-clause-accepted : goal.returns-clause-accepted

@@ -1,0 +1,4 @@
+pub mod ViolationTests
+pub mod GroupSums
+pub mod KeptSound
+pub mod CountedPairs

@@ -1,0 +1,4 @@
+pub mod KeptFailure
+pub mod InnerGroups
+pub mod Axioms
+pub mod ViolationsFailure

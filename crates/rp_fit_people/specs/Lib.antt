@@ -1,0 +1,2 @@
+pub mod KeptPeople
+pub mod LevelPeople

@@ -1,0 +1,87 @@
+//! The search for a rational type that leaves out nothing, depth first over the budgets in the order of the patches. It
+//! decides whether there is one where the search with prices has found none.
+ghost use Rattle.std.specs.Prelude.{◌≡◌, ◌<◌, ◌≤◌, ◌+◌, ◌*◌, ◌++◌, ◌∷◌, []};
+ghost use Rattle.std.specs.Prelude.{IfNone, IfOk, IfSome, length};
+ghost use Rattle.rp_generated.specs.InnerLooks.{IsDecided, Looked, LookedFrom, NoneBegins};
+ghost use Rattle.rp_limits.specs.declared.generated.TheConstants.{STEPS};
+ghost use Rattle.rp_patch.specs.PartialTypes.{IsPartialType, taken_in};
+
+use crate::looked::Lightest;
+use rp_limits::table::BUDGETS;
+use rp_num::NoMemory;
+use rp_patch::Patches;
+use rp_patch::partial_type::PartialType;
+use std::alloc::Global;
+
+impl Lightest {
+    /// Looks at a patch of the next budget for a partial type whatever it weighs, which is a step.
+    fn look_plainly(
+        &mut self,
+        patches: &Patches,
+        partial: &PartialType,
+        i: u32,
+    ) -> Option<PartialType>
+        requires part { IsPartialType patches.now partial.now }
+        requires patch { i < length patches.now.patches }
+        requires left { 2 * self.old.steps + 2 ≤ STEPS }
+        ensures counted { self.new.steps ≡ self.old.steps + 1 }
+        ensures types { self.new.types ≡ self.old.types }
+        ensures part { IfSome result (IsPartialType patches.now) }
+        ensures taken { IfSome result (λ longer. longer.taken ≡ partial.now.taken + 1) }
+        ensures longer { IfSome result (λ longer.
+            taken_in longer ≡ taken_in partial.now ++ i ∷ []) }
+        ensures excluded { IfNone result
+            (NoneBegins patches.now (taken_in partial.now ++ i ∷ [])) }
+    {
+        self.steps += 1;
+        partial.with(patches, i)
+    }
+}
+
+/// Looks through the types that begin with a partial type, until one is found. Each step that it counts is a look for
+/// one of them, and none is made twice.
+fn seek_plainly(
+    alloc: Global,
+    patches: &Patches,
+    partial: &PartialType,
+    light: &mut Lightest,
+) -> Result<(), NoMemory>
+    requires { IsPartialType patches.now partial.now }
+    ensures looked { IfOk result (λ _.
+        Looked patches.now (taken_in partial.now) light.old light.new) }
+    ensures decided { IfOk result (λ _.
+        IsDecided patches.now (taken_in partial.now) light.new) }
+{
+    prove!(patches.budgets() <= BUDGETS);
+    if partial.taken == patches.budgets() {
+        return light.take(alloc, partial.patches(), 0);
+    }
+    for i in 0..patches.count() {
+        if light.is_given_up() || !light.types.is_empty() {
+            return Ok(());
+        }
+        if patches.budget_of(i) == partial.taken {
+            if let Some(longer) = light.look_plainly(patches, partial, i) {
+                seek_plainly(alloc, patches, &longer, light)?;
+            }
+        }
+    }
+    Ok(())
+}
+
+/// The first rational type, where there is one; `steps` were made before.
+pub(crate) fn first_type(alloc: Global, patches: &Patches, steps: u64) -> Result<Lightest, NoMemory>
+    requires { 2 * steps ≤ STEPS }
+    ensures few { IfOk result (λ light. 2 * light.steps ≤ STEPS) }
+    ensures looked { IfOk result (LookedFrom patches.now steps) }
+    ensures decided { IfOk result (IsDecided patches.now []) }
+{
+    let mut light = Lightest {
+        weight: 0,
+        types: Vec::new(alloc),
+        steps,
+    };
+    let none = PartialType::new(patches);
+    seek_plainly(alloc, patches, &none, &mut light)?;
+    Ok(light)
+}

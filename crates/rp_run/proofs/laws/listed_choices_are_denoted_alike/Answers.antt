@@ -1,5 +1,0 @@
-use Rattle.rp_run.proofs.DenotedAlike.{denotes_alike}
-use Rattle.rp_run.proofs.laws.listed_choices_are_denoted_alike.Goals as goal
-
-pub returns : goal.returns
-returns c = denotes_alike
