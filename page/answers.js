@@ -38,7 +38,7 @@ function byObservation(table, columns) {
 const walkOf = (list) => walkInWords(numbersIn(list));
 
 function garpCard(item, table, levels) {
-  const title = "GARP: can one consumer have made these choices?";
+  const title = "GARP: could one consumer have made these choices?";
   const verdict = sentence("garp", item.verdict, { levels });
   if (item.verdict === "holds") {
     const ranks = folded(
@@ -83,7 +83,7 @@ function efficiencyCard(item, table, levels) {
   if (item.above) evidence.push(say(`A cycle which violates it at every level above: ${walkOf(item.above)}.`));
   if (item["at cycle"]) evidence.push(say(`A cycle which violates it at the index: ${walkOf(item["at cycle"])}.`));
   if (item["at ranks"]) evidence.push(say(`Ranks which show that it holds at the index: ${item["at ranks"]}.`));
-  return card("CCEI, the efficiency index: how far off is it?", verdict, "", folded("The evidence", ...evidence));
+  return card("CCEI: how far are the choices from GARP?", verdict, "", folded("The evidence", ...evidence));
 }
 
 function afriatCard(item, table, levels) {

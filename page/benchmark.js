@@ -64,11 +64,11 @@ export function atThresholds(indices) {
 
 /** The shares of indices of at least the thresholds: a row for each of these groups, by its name. */
 export function sharesTable(groups) {
-  const names = ["", "number", ...THRESHOLDS.map((it) => `index at least 0.${it}`)];
+  const names = ["", "number", ...THRESHOLDS.map((it) => `CCEI at least 0.${it}`)];
   const rows = Object.entries(groups).map(([name, indices]) => [
     name,
     String(indices.length),
     ...atThresholds(indices).map((it) => shareInWords(it, indices.length)),
   ]);
-  return make("div", { className: "shares" }, tableOf(names, rows, "shares of indices of at least 0.90 and 0.95"));
+  return make("div", { className: "shares" }, tableOf(names, rows, "share with a CCEI of at least 0.90 and 0.95"));
 }

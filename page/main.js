@@ -22,11 +22,11 @@ const KINDS = [
       {
         key: "table",
         file: "table",
-        title: "Table, or panel of subjects or households",
+        title: "Table, or panel",
         mapped: true,
         note:
-          "A CSV file: p_NAME and q_NAME for each good, a row for each observation. A column of subjects or " +
-          "households makes it a panel.",
+          "A CSV file: p_NAME and q_NAME for each good, a row for each observation. A column of ids, such as " +
+          "subject, makes it a panel.",
         examples: ["experiment.csv", "contradiction.csv", "levels.csv", "panel.csv"],
       },
     ],

@@ -266,7 +266,7 @@ export class Panel {
     const answered = this.rows.length - refused.length - unnamed.length;
     this.summary.textContent =
       `${answered} of ${this.households.length} ${this.units} answered${this.took}, ` +
-      `${kept.length} of them satisfy GARP${held}${nothing}, ${refused.length} with an error.${none}${first}`;
+      `${kept.length} of them satisfy GARP${held}${nothing}, ${refused.length} with errors.${none}${first}`;
     if (!isWhole) return;
     const found = this.#shown();
     this.body.replaceChildren(...found.slice(0, MOST_ROWS).map((row) => this.#row(row)));
@@ -288,7 +288,7 @@ export class Panel {
       : ".";
     const caption = make(
       "figcaption",
-      { textContent: `The share of ${this.units} with at most each efficiency index${beside}` },
+      { textContent: `The share of ${this.units} with at most each CCEI${beside}` },
     );
     this.figure.replaceChildren(
       svg,

@@ -254,8 +254,8 @@ export function indexPicture(people, random, units = "units") {
     height: high - top - 56,
     mostX: 1,
     mostY: 1,
-    nameX: "efficiency index",
-    nameY: "share with at most this index",
+    nameX: "CCEI",
+    nameY: "share with at most this CCEI",
   };
   const { x, y } = axes(svg, frame);
   if (random.length) svg.append(element("path", { class: "random", d: cumulative(random, x, y) }));

@@ -130,7 +130,7 @@ function demandQuestion(client, file, table) {
     "Prices of each good and what is spent (m), a record for each budget. The bounds hold over all demands that keep " +
     "the axiom.";
   const name = nameBeside("new prices", file.name);
-  return question("New prices: what would such a consumer buy?", explains, [
+  return question("Demand: what could this consumer choose at new prices?", explains, [
     labelled("New prices as CSV", field),
   ], async (place) => {
     const typed = { name, bytes: bytesOf(field.value) };
@@ -173,7 +173,7 @@ function welfareQuestion(client, file, table) {
     "Prices of each good. For each observation: bounds on what it costs at these prices to be as well off as there, " +
     "in the units of the prices.";
   const name = nameBeside("new prices", file.name);
-  return question("New prices: what does it cost to be as well off?", explains, [
+  return question("Welfare: what would the old living standard cost at new prices?", explains, [
     labelled("New prices as CSV", field),
   ], async (place) => {
     const typed = { name, bytes: bytesOf(field.value) };
@@ -225,7 +225,7 @@ function uniformQuestion(client, file, table, { working, progress, tell }) {
   const explains =
     "Each random behaviour takes a bundle of each budget line, every division of what was spent as likely as another " +
     "(Bronars 1987). The same seed draws the same bundles in the packages for Python and R.";
-  return question("Power: how often would random behaviour be found out?", explains, [
+  return question("Power: would random choices have passed the test?", explains, [
     labelled("Seed", seed),
     labelled("Random behaviours", draws),
   ], async (place, isCurrent) => {
@@ -259,7 +259,7 @@ function levelQuestion(client, file, hasOwnMoney) {
   const level = numberField(950, 1, limit("table.level_scale"));
   const explains =
     "How many thousandths of each expenditure count. A column e in the file gives each observation a level of its own.";
-  return question("Own levels: hold every observation to a weaker test", explains, [
+  return question("Efficiency levels (column e): test each observation at a lower level", explains, [
     labelled("Thousandths", level),
   ], async (place) => {
     const held = { name: file.name, bytes: withLevel(file.bytes, level.value) };
@@ -325,7 +325,7 @@ export function tableQuestions(client, file, table, shows, hasOwnMoney = false) 
     },
   );
   const pump = question(
-    "Money pump: what does a cycle give away at most?",
+    "Money pump: how much money could a cycle cost?",
     "The greatest part of what is spent round a cycle that somebody could take by buying and selling back " +
       "(Echenique, Lee and Shum 2011).",
     [],

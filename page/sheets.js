@@ -287,12 +287,12 @@ export class Sheet {
 export const ROLES = [
   { key: "price", says: "price of the good", good: true },
   { key: "quantity", says: "quantity of the good", good: true },
-  { key: "most", says: "the most of the good that the budget buys (intercept)", good: true },
-  { key: "level", says: "own level, in thousandths (e)" },
+  { key: "most", says: "intercept: the most of this good that the budget buys", good: true },
+  { key: "level", says: "efficiency level, in thousandths (e)" },
   { key: "label", says: "label of the observation (obs)" },
-  { key: "household", says: "subject or household: one table each" },
+  { key: "household", says: "id of a subject or household" },
   { key: "out", says: "leave it out" },
-  { key: "same", says: "as it stands" },
+  { key: "same", says: "keep as it is" },
   { key: "open", says: "choose what it is" },
 ];
 

@@ -139,13 +139,13 @@ export class Slot {
   show(fault = null, isAnswered = false) {
     const sheet = this.sheet;
     const size =
-      `${sheet.name}: ${Math.max(0, sheet.records.length - 1)} records of ${sheet.header.length} columns, ` +
+      `${sheet.name}: ${Math.max(0, sheet.records.length - 1)} rows of ${sheet.header.length} columns, ` +
       `${sheet.bytes.length.toLocaleString("en")} bytes.`;
     const isOpen = Boolean(fault) || (this.isAsked && !isAnswered);
     const asked = this.isAsked
       ? [this.#changes(), this.#go()]
       : sheet.findings().map((it) => make("p", { className: "finding", textContent: it.says }));
-    const preview = folded("The records, as they stand", this.#preview(fault));
+    const preview = folded("The rows of the file", this.#preview(fault));
     preview.open = isOpen;
     const isFolded = this.isAsked && !isOpen;
     this.body.replaceChildren(
@@ -244,14 +244,11 @@ export class Slot {
   /** What the assignment that is shown is a suggestion from. */
   #suggested() {
     if (this.mapping.hasOwnMoney) {
+      const [one, other] = this.mapping.intercepts;
       return (
-        `The budget lines stand here by their intercepts, the most of ${this.mapping.intercepts.join(" and of ")} ` +
-        `that ` +
-        "they buy. Exchanged, intercepts are exact prices: that of one good is the price of the other. What is spent " +
-        "is " +
-        "then in money of its own at each observation, so what adds money of several is not asked: the quasilinear " +
-        "test, " +
-        "the money pump. Change what is wrong."
+        "The budget lines are given by their intercepts. Exchanged intercepts are exact prices: the intercept of " +
+        `${other} is the price of ${one}. Each observation then has money of its own, so the quasilinear test and ` +
+        "the money pump are left out. Change what is wrong."
       );
     }
     const known = this.mapping.roles.some((it) => it.role === "same");

@@ -82,9 +82,9 @@ test("what choices spent of the offered budgets", () => {
   assert.equal(found.least.at, 1);
   assert.ok(found.least.share[0] * 10n === found.least.share[1] * 7n);
   assert.equal(offered(table(["5.0", "5.0"], ["3.0", "4.0"], ["5.0", "4.0"])).below.map((it) => it.at).join(), "1,2");
-  assert.match(offeredSays(table(["5", "5"], ["9", "9"])).head, /^Observation 2 .*choice 9 and 9\) costs 1\.8 of/);
+  assert.match(offeredSays(table(["5", "5"], ["9", "9"])).head, /^Observation 2 .*choice 9 and 9\) costs 1\.8000 of/);
   assert.equal(offeredSays(table(["5", "6"])).head, undefined);
-  assert.match(offeredSays(table(["5.0", "6.0"])).head, /costs 1\.1 of/);
+  assert.match(offeredSays(table(["5.0", "6.0"])).head, /costs 1\.1000 of/);
   assert.match(offeredSays(table(["5", "5"])).says, /all 1 choices lie on their lines/);
 });
 
@@ -406,7 +406,7 @@ test("a fault of a household is told at its place in the file", () => {
   const row = rowAt(own, file.numbers, ({ record, column }) =>
     placeInFile({ record, column: column - 1 }, records, mapping));
   assert.deepEqual([row.record, row.column], ["3", "4"]);
-  assert.match(row.told, /^BadNumber at record 3, column 4 \(q_a\): "x6"\. This is no number/);
+  assert.match(row.told, /^BadNumber at record 3, column 4 \(q_a\): "x6"\. This field is not a number/);
   assert.equal(placeInWords(placeInFile(parseFault("rp: t.csv: NoRecords\n"), records, null)), "");
 });
 
@@ -466,7 +466,7 @@ test("the rows of households: their verdicts, or a fault; and what is no table o
   const [u, v] = rowsOf(HEAD + good.join(""), asked).map((it) => rowAt(it, [7, 9], nowhere));
   assert.deepEqual([u.garp, u.efficiency, u.efficiency_floor], ["violated", "4/5", "0.800000"]);
   assert.deepEqual([u.attained, u.told], ["yes", ""]);
-  assert.deepEqual([v.garp, v.record, v.told], ["", "9", "ZeroPrice. A price is 0; prices are above 0."]);
+  assert.deepEqual([v.garp, v.record, v.told], ["", "9", `ZeroPrice. ${meansOf("ZeroPrice")}`]);
   const wrong = ["", "usage\n", HEAD, HEAD + good[0], HEAD + good.join("") + good[1], good.join("")];
   wrong.push(HEAD + good[1] + good[0]);
   wrong.push(`${HEAD}${good[0]}v,,,,,,,,,,,,,,\n`, `${HEAD}${good[0]}v,1,2,maybe,1,1.000000,yes,holds,holds,,,,,,\n`);

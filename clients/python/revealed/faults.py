@@ -32,8 +32,8 @@ class Pooled(BadData):
         self.label, self.name = label, name
         super().__init__(
             (why or f"more than one row has the label {shown(label, repr)} of {name}")
-            + ", so these look like several units, such as subjects. panel(d, by=..) takes each unit apart by the column that tells units apart."
-            " If the rows are those of one unit, give each row a label of its own."
+            + f", so these look like several units, such as subjects. Use panel(d, by={'..' if label is not None else repr(name)}), which tests each unit,"
+            " with the column that tells units apart. If the rows are those of one unit, give each row a label of its own."
         )
 
 

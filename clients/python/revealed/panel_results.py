@@ -248,8 +248,8 @@ class Panel(Units):
     def frame(self) -> Any:
         """Returns the records as a frame of pandas, which has to be there; BadData says what to install where it is not.
 
-        Verdicts are of its type `boolean`, in which what is withheld is missing and never False; what ends in `_floor` is `Float64`;
-        fractions and faults are texts.
+        Verdicts are of its type `boolean`, in which what is withheld is missing and never False. `ccei`, the nearest float to the index but
+        1 for an index of 1 alone, and what ends in `_floor` are `Float64`; fractions and faults are texts.
         """
         pandas = self.pandas()
         columns = {name: [self.keys(row)[at] for row in self] for at, name in enumerate(self.by)}
@@ -258,6 +258,9 @@ class Panel(Units):
             kind = KINDS[name]
             values = [row.texts[name] or None if kind == "string" else getattr(row, name) for row in self]
             made[name] = pandas.array(values, dtype=kind)
+            if name == "efficiency":
+                # The index as a number, under the name that it has in R.
+                made["ccei"] = pandas.array([row.ccei for row in self], dtype="Float64")
         return pandas.DataFrame(made)
 
     def to_stata(self, path: Any) -> None:

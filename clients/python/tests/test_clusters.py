@@ -54,7 +54,7 @@ class Tasks(unittest.TestCase):
 
     def test_the_schema(self):
         wanted = "`town` string, `year` string, `observations` bigint, `goods` bigint, `garp` boolean, `efficiency` string, "
-        wanted += "`efficiency_floor` double, `attained` boolean, `homothetic` boolean, `quasilinear` boolean, `pump` string, "
+        wanted += "`ccei` double, `efficiency_floor` double, `attained` boolean, `homothetic` boolean, `quasilinear` boolean, `pump` string, "
         wanted += "`pump_floor` double, `power` string, `fault` string, `record` bigint, `column` bigint"
         self.assertEqual(revealed.panel_task(["town", "year"], order="obs", power=5).schema, wanted)
         self.assertTrue(revealed.panel_task("town", order="obs", key="bigint").schema.startswith("`town` bigint, "))

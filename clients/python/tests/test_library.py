@@ -10,6 +10,7 @@ import sys
 import tempfile
 import threading
 import unittest
+import warnings
 
 import revealed
 from revealed import NoProgram, Refused, library, program
@@ -64,6 +65,27 @@ class Found(unittest.TestCase):
         os.environ["RP_EXEC"] = sys.executable
         self.assertEqual(program.way(), (None, os.path.abspath(sys.executable)))
         self.assertEqual(program.way(sys.executable)[0], None)
+
+    def test_a_library_of_another_version_gives_a_warning(self):
+        class Own:
+            path = "/somewhere/librp.so"
+
+        for version, count in [("0.0.1", 1), (revealed.__version__, 0), (None, 0)]:
+            Own.version = version
+            with warnings.catch_warnings(record=True) as caught:
+                warnings.simplefilter("always")
+                library.warn_of_version(Own)
+            self.assertEqual(len(caught), count, version)
+            self.assertTrue(all("/somewhere/librp.so is of version 0.0.1" in str(it.message) for it in caught))
+
+    @unittest.skipUnless(LIBRARY, "there is no library")
+    def test_the_library_tells_its_version(self):
+        own = library.known(os.path.abspath(LIBRARY))
+        if own.version is None:
+            self.skipTest("the library is of 0.17.0 or earlier")
+        self.assertEqual(own.version, revealed.__version__)
+        self.assertEqual(program.version(LIBRARY), revealed.__version__)
+        self.assertIsNone(program.version(sys.executable))
 
     @unittest.skipUnless(LIBRARY, "there is no library")
     def test_the_library_that_is_named(self):

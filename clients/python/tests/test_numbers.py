@@ -244,7 +244,7 @@ class Tables(unittest.TestCase):
             with self.assertRaises(Pooled) as caught:
                 from_frame({**d, **more})
             self.assertEqual(caught.exception.label, label)
-            self.assertIn("panel(d, by=..)", str(caught.exception))
+            self.assertIn("panel(d, by=", str(caught.exception))
         # a name of each row, and one household
         self.assertEqual(len(from_frame({**d, "id": [1, 2, 3]})), 3)
         self.assertEqual(len(from_frame({**d, "household": ["u", "u", "u"]})), 3)

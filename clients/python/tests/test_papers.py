@@ -187,7 +187,8 @@ class Frames(unittest.TestCase):
     def test_types(self):
         f = made(pump=True, power=10).frame()
         types = {name: str(kind) for name, kind in f.dtypes.items()}
-        self.assertEqual(list(types), ["id", *revealed.long_call.COLUMNS[1:]])
+        self.assertEqual([it for it in types if it != "ccei"], ["id", *revealed.long_call.COLUMNS[1:]])
+        self.assertEqual(types["ccei"], "Float64")
         for name in ("garp", "attained", "homothetic", "quasilinear"):
             self.assertEqual(types[name], "boolean")
         for name in ("efficiency_floor", "pump_floor"):
@@ -246,8 +247,8 @@ class Pictures(unittest.TestCase):
     def test_a_panel(self):
         axes = made().plot(random=5)
         own, drawn = [it.get_text() for it in axes.get_legend().get_texts()]
-        self.assertEqual(own, "2 households: 50.0% at least 0.90, 50.0% at least 0.95")
-        self.assertRegex(drawn, r"^5 random behaviours: \d+\.0% above 0\.90, \d+\.0% above 0\.95$")
+        self.assertEqual(own, "2 units: 50.0% at least 0.90, 50.0% at least 0.95")
+        self.assertRegex(drawn, r"^5 random behaviours: \d+\.0% at least 0\.90, \d+\.0% at least 0\.95$")
         self.saved(axes)
         self.saved(made().plot(random=0))
         own = matplotlib.pyplot.subplots()[1]

@@ -668,7 +668,7 @@ def check_files():
         assert re.search(r"(?m)^p rptest ", it.read())
     with open(os.path.join(HERE, "..", "rptest.pkg"), encoding="ascii") as it:
         named = re.findall(r"(?m)^[fF] (\S+)$", it.read())
-    assert sorted(named) == ["rptest.ado", "rptest.sh", "rptest.sthlp"], named
+    assert sorted(named) == ["rptest.ado", "rptest.sh", "rptest.sthlp", "rptest_hints.txt"], named
     assert all(os.path.exists(os.path.join(HERE, "..", it)) for it in named)
 
 

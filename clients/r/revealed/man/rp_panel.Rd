@@ -13,8 +13,8 @@ it in its row, and the others go on. If all units have the same error, the call 
 the texts of their ids, without the blanks around them. A row without an id belongs to no unit, and has a row of its own behind them.
 }
 \usage{
-rp_panel(data, by = id, ask = c("test", "pump", "power"), decimals = digits, levels = NULL,
-  seed = NULL, draws = 1000, workers = NULL, numbers = "shortest",
+rp_panel(data, by = id, ask = c("test", "pump", "power"), decimals = digits,
+  levels = NULL, seed = NULL, draws = 1000, workers = NULL, numbers = "shortest",
   progress = interactive(), exe = NULL, wide = TRUE, units = NULL, digits = NULL,
   id = NULL)
 }

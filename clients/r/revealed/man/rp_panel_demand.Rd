@@ -12,9 +12,11 @@ of its observations at new prices, as \code{\link{rp_demand}} and \code{\link{rp
 }
 \usage{
 rp_panel_demand(data, by, new, m = NULL, decimals = NULL, workers = NULL,
-  numbers = "shortest", progress = interactive(), exe = NULL, wide = TRUE, units = NULL)
+  numbers = "shortest", progress = interactive(), exe = NULL, wide = TRUE,
+  units = NULL)
 rp_panel_welfare(data, by, new, decimals = NULL, workers = NULL,
-  numbers = "shortest", progress = interactive(), exe = NULL, wide = TRUE, units = NULL)
+  numbers = "shortest", progress = interactive(), exe = NULL, wide = TRUE,
+  units = NULL)
 }
 \arguments{
 \item{data, by, decimals, workers, numbers, progress, exe, wide, units}{as for \code{\link{rp_panel}}.}

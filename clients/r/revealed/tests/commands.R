@@ -177,7 +177,7 @@ stopifnot(grepl("rp_panel(data, by = 'household')", conditionMessage(wrong), fix
 caught(rp_test(long[-2]), "rp_bad_data")
 stopifnot(inherits(rp_test(transform(long[-2], household = 7)), "rp_test"))
 wrong <- caught(rp_test(long[-1]), "rp_bad_data")
-stopifnot(grepl("rp_panel(data, id", conditionMessage(wrong), fixed = TRUE), grepl("rows 1 and 3", conditionMessage(wrong)))
+stopifnot(grepl("rp_panel(data, by", conditionMessage(wrong), fixed = TRUE), grepl("rows 1 and 3", conditionMessage(wrong)))
 caught(rp_test(rbind(a = 1, a = 2), rbind(a = 1, a = 2)), "rp_bad_data")
 caught(rp_test(transform(long, obs = c(NA, NA, 1, 2))), "rp_bad_data")
 twice <- rp_panel(transform(long, household = c("a", "a", "b", "b"), obs = c(1, 2, 1, 1)), "household", workers = 1)
@@ -280,7 +280,7 @@ stopifnot(system.time(caught(rp_panel(crowd, "home"), "rp_refused"))[["elapsed"]
 as_texts <- transform(floats, p_a = c("3.1800001", "2.5", "1.0000001"))
 every <- caught(rp_panel(as_texts, "home", workers = 1), "rp_all_refused")
 stopifnot(inherits(every, "rp_refused"), every$fault == "TooManyDecimals", every$count == 2)
-stopifnot(startsWith(conditionMessage(every), "all 2 units have one error, the first, 'u': row 1, column 'p_a', value '3.1800001': "))
+stopifnot(startsWith(conditionMessage(every), "all 2 households have one error, the first, 'u': row 1, column 'p_a', value '3.1800001': "))
 two <- as.data.frame(rp_panel(transform(as_texts, p_a = c("3.1800001", 2.5, 0)), "home", workers = 1))
 stopifnot(identical(two$fault, c("TooManyDecimals", "ZeroPrice")), identical(two$record, c(1L, 3L)), two$column == 2)
 if (requireNamespace("gmp", quietly = TRUE)) {

@@ -26,6 +26,14 @@ Sys.setenv(RP_LIBRARY = "/bin/sh")
 stopifnot(grepl("RP_LIBRARY", conditionMessage(caught(rp_test(one, one), "rp_no_program"))))
 stopifnot(identical(rp_program("/bin/sh"), "/bin/sh"))
 
+# ---- its version: that of the package, or a warning
+warned <- function(version) tryCatch({ revealed:::warn_of_version("/somewhere/librp.so", version); "" }, rp_warning = conditionMessage)
+own <- as.character(packageVersion("revealed"))
+stopifnot(grepl("/somewhere/librp.so is of version 0.0.1", warned("0.0.1")), warned(own) == "", warned(NULL) == "")
+stopifnot(identical(rp_version("/bin/sh"), c(package = own, library = NA_character_)))
+tested <- Sys.getenv("RP_TEST_LIBRARY")
+if (nzchar(tested)) stopifnot(rp_version(tested)[["library"]] %in% c(NA, own))
+
 # ---- where it is looked for: in the release or beside the folder of programs that has the program
 Sys.unsetenv(c("RP_LIBRARY", "RP_EXEC"))
 copy <- function(from, ...) {
