@@ -48,6 +48,7 @@ from .measures import CostBound, CostMinimisation, MenuVerdict, MoneyPump, Order
 from .offered import Offered, Overspent
 from .panels import Panel, Row, panel
 from .tables import Choices, MenuChoices, Table, Technology, from_frame, table
+from .theorems import theorem
 from .verifier import Finding, Findings, NoCertificate, NoReport, NoTable
 
 __all__ = [
@@ -118,6 +119,7 @@ __all__ = [
     "random_trial",
     "random_utility",
     "table",
+    "theorem",
     "trial",
     "utility",
     "verify",

@@ -1,0 +1,95 @@
+"""Theorems that `rp-second` writes, where it is; what is said where it is not; and what it is given."""
+
+import os
+import pathlib
+import stat
+import tempfile
+import unittest
+from unittest import mock
+
+import revealed
+from revealed import BadData, NoProgram, theorems
+
+TABLE = "p_a,q_a,p_b,q_b\n1,1,2,2\n2,2,1,1\n"
+CERTIFICATE = '{"items":[{"cycle":[1,2,1],"item":"garp"}],"kind":"table","version":1}\n'
+EVIDENCE = (
+    '{"items":[{"cycle":[1,2,1],"item":"garp"},{"cycle":[1,2,1],"item":"afriat"},{"above":[1,2,1],"at_ranks":[2,2],"below":[1,1],'
+    '"item":"efficiency","level":"4/5"},{"cycle":[1,2,1],"item":"homothetic","start":"1"},{"cycle":[1,2,1],"item":"quasilinear"}],'
+    '"kind":"table","version":1}\n'
+)
+BUDGETS, CHOICES = (
+    "p_a,p_b,w\n1,2,4\n2,1,4\n",
+    "budget,q_a,q_b,n\n1,2,1,1\n1,0,2,3\n2,1,2,2\n2,2,0,2\n",
+)
+MIXED = '{"items":[{"den":"1","item":"random","parts":[[[1,4],"1"],[[2,3],"2"]],"total":"4","weights":["1","0","1","0"]}],"kind":"random","version":1}\n'
+# Stands for the program: it writes its words and the files that it is given.
+STANDS = '#!/bin/sh\n[ "$1" = --theorem ] || exit 2\necho "(* $* *)"\nshift\ncat "$@"\n'
+
+
+class Without(unittest.TestCase):
+    def test_says_what_to_install(self):
+        with mock.patch.dict(os.environ, {"PATH": "/nowhere", theorems.VARIABLE: ""}):
+            with self.assertRaisesRegex(NoProgram, "coq, ocaml-findlib and libzarith-ocaml-dev"):
+                revealed.theorem(TABLE, CERTIFICATE)
+
+
+@unittest.skipIf(os.name == "nt", "the program that stands for rp-second is a script of a shell")
+class Given(unittest.TestCase):
+    def setUp(self):
+        self.folder = tempfile.TemporaryDirectory()
+        self.addCleanup(self.folder.cleanup)
+        self.program = pathlib.Path(self.folder.name, "stands")
+        self.program.write_text(STANDS, encoding="ascii")
+        self.program.chmod(self.program.stat().st_mode | stat.S_IXUSR)
+
+    def test_a_table_and_its_certificate(self):
+        to = pathlib.Path(self.folder.name, "Paper.v")
+        text = revealed.theorem(TABLE, CERTIFICATE, exe=self.program, to=to)
+        self.assertEqual(text, "(* --theorem table.csv certificate.json *)\n" + TABLE + CERTIFICATE)
+        self.assertEqual(to.read_text(encoding="ascii"), text)
+
+    def test_choices_and_their_certificate(self):
+        text = revealed.theorem((BUDGETS, CHOICES), MIXED, exe=self.program)
+        self.assertEqual(
+            text,
+            "(* --theorem budgets.csv choices.csv certificate.json *)\n" + BUDGETS + CHOICES + MIXED,
+        )
+
+    def test_rows_of_prices_and_quantities(self):
+        text = revealed.theorem(([[1, 2], [2, 1]], [[1, 2], [2, 1]]), CERTIFICATE, exe=self.program)
+        self.assertEqual(text.splitlines()[2:4], ["1,2,1,2", "2,1,2,1"])
+
+    def test_an_answer_has_its_own_certificate(self):
+        own = revealed.table([[1, 2], [2, 1]], [[1, 2], [2, 1]])
+        verdict = revealed.Verdict(own, revealed.Certificate(EVIDENCE.encode()))
+        self.assertTrue(revealed.theorem(verdict, exe=self.program).endswith(EVIDENCE))
+
+    def test_what_is_rejected_has_no_theorem(self):
+        self.program.write_text(
+            "#!/bin/sh\necho rejected item 1 NotClosed place 0\nexit 1\n",
+            encoding="ascii",
+        )
+        with self.assertRaisesRegex(BadData, "rejected item 1 NotClosed place 0"):
+            revealed.theorem(TABLE, CERTIFICATE, exe=self.program)
+
+
+@unittest.skipUnless(
+    os.environ.get(theorems.VARIABLE),
+    f"the variable {theorems.VARIABLE} names no rp-second",
+)
+class Written(unittest.TestCase):
+    def test_theorems_of_a_contradiction(self):
+        text = revealed.theorem(TABLE, CERTIFICATE)
+        self.assertIn("Theorem garp_violated : ~ garp observed (by_own observed).", text)
+        self.assertIn('  "1,1,2,2";\n', text)
+
+    def test_theorems_of_choices(self):
+        text = revealed.theorem((BUDGETS, CHOICES), MIXED)
+        self.assertIn(
+            "Theorem greatest_share_is : forall K, greatest_share K kinds offers shares (3 # 4).",
+            text,
+        )
+
+
+if __name__ == "__main__":
+    unittest.main()

@@ -1,0 +1,24 @@
+# Theorems that rp-second writes, where it is; and what is said where it is not.
+library(revealed)
+source(system.file("testing", "opening.R", package = "revealed"))
+need_program()
+P <- rbind(c(1, 2), c(2, 1))
+v <- rp_test(P, P)
+
+# ---- without the program
+old <- Sys.getenv("RP_SECOND")
+Sys.setenv(RP_SECOND = "/nowhere/rp-second")
+wrong <- caught(rp_theorem(v), "rp_no_program")
+stopifnot(grepl("coq, ocaml-findlib and libzarith-ocaml-dev", conditionMessage(wrong), fixed = TRUE))
+Sys.setenv(RP_SECOND = old)
+
+# ---- with it
+if (nzchar(old)) {
+  to <- tempfile(fileext = ".v")
+  text <- rp_theorem(v, file = to)
+  stopifnot(identical(readLines(to), text), "Theorem garp_violated : ~ garp observed (by_own observed)." %in% text)
+  stopifnot("Theorem efficiency_is : efficiency_index observed (4 # 5)." %in% text)
+  stopifnot(identical(rp_theorem(list(P, P)), text))
+  wrong <- caught(rp_theorem(list(P, rbind(c(2, 1), c(1, 2))), v), "rp_bad_data")
+  stopifnot(grepl("rejected item 1", conditionMessage(wrong)))
+}
