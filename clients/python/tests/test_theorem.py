@@ -17,10 +17,11 @@ EVIDENCE = (
     '"item":"efficiency","level":"4/5"},{"cycle":[1,2,1],"item":"homothetic","start":"1"},{"cycle":[1,2,1],"item":"quasilinear"}],'
     '"kind":"table","version":1}\n'
 )
-BUDGETS, CHOICES = "p_a,p_b,w\n1,2,4\n2,1,4\n", "budget,q_a,q_b,n\n1,2,1,1\n1,0,2,3\n2,1,2,2\n2,2,0,2\n"
-MIXED = (
-    '{"items":[{"den":"1","item":"random","parts":[[[1,4],"1"],[[2,3],"2"]],"total":"4","weights":["1","0","1","0"]}],"kind":"random","version":1}\n'
+BUDGETS, CHOICES = (
+    "p_a,p_b,w\n1,2,4\n2,1,4\n",
+    "budget,q_a,q_b,n\n1,2,1,1\n1,0,2,3\n2,1,2,2\n2,2,0,2\n",
 )
+MIXED = '{"items":[{"den":"1","item":"random","parts":[[[1,4],"1"],[[2,3],"2"]],"total":"4","weights":["1","0","1","0"]}],"kind":"random","version":1}\n'
 # Stands for the program: it writes its words and the files that it is given.
 STANDS = '#!/bin/sh\n[ "$1" = --theorem ] || exit 2\necho "(* $* *)"\nshift\ncat "$@"\n'
 
@@ -49,7 +50,10 @@ class Given(unittest.TestCase):
 
     def test_choices_and_their_certificate(self):
         text = revealed.theorem((BUDGETS, CHOICES), MIXED, exe=self.program)
-        self.assertEqual(text, "(* --theorem budgets.csv choices.csv certificate.json *)\n" + BUDGETS + CHOICES + MIXED)
+        self.assertEqual(
+            text,
+            "(* --theorem budgets.csv choices.csv certificate.json *)\n" + BUDGETS + CHOICES + MIXED,
+        )
 
     def test_rows_of_prices_and_quantities(self):
         text = revealed.theorem(([[1, 2], [2, 1]], [[1, 2], [2, 1]]), CERTIFICATE, exe=self.program)
@@ -61,12 +65,18 @@ class Given(unittest.TestCase):
         self.assertTrue(revealed.theorem(verdict, exe=self.program).endswith(EVIDENCE))
 
     def test_what_is_rejected_has_no_theorem(self):
-        self.program.write_text("#!/bin/sh\necho rejected item 1 NotClosed place 0\nexit 1\n", encoding="ascii")
+        self.program.write_text(
+            "#!/bin/sh\necho rejected item 1 NotClosed place 0\nexit 1\n",
+            encoding="ascii",
+        )
         with self.assertRaisesRegex(BadData, "rejected item 1 NotClosed place 0"):
             revealed.theorem(TABLE, CERTIFICATE, exe=self.program)
 
 
-@unittest.skipUnless(os.environ.get(theorems.VARIABLE), f"the variable {theorems.VARIABLE} names no rp-second")
+@unittest.skipUnless(
+    os.environ.get(theorems.VARIABLE),
+    f"the variable {theorems.VARIABLE} names no rp-second",
+)
 class Written(unittest.TestCase):
     def test_theorems_of_a_contradiction(self):
         text = revealed.theorem(TABLE, CERTIFICATE)
@@ -75,7 +85,10 @@ class Written(unittest.TestCase):
 
     def test_theorems_of_choices(self):
         text = revealed.theorem((BUDGETS, CHOICES), MIXED)
-        self.assertIn("Theorem greatest_share_is : forall K, greatest_share K kinds offers shares (3 # 4).", text)
+        self.assertIn(
+            "Theorem greatest_share_is : forall K, greatest_share K kinds offers shares (3 # 4).",
+            text,
+        )
 
 
 if __name__ == "__main__":
