@@ -1,7 +1,7 @@
 -- Accepted evidence proves the bound: a consistent set has at most one observation of a group whose members contradict
 -- each other, and not all of a violation. So, where the weights on each observation are the denominator or more, the
 -- denominator times its size is at most what the groups allow (duality of linear programming).
-use Rattle.std.proofs.Common.{◌≡◌, ◌≢◌, ◌<◌, ◌≤◌, ◌+◌, ◌-◌, ◌*◌, ◌/◌, ◌==◌, ◌||◌, ◌⊎◌, inl, inr, ℕ, zero, suc, Bool, true, false, List, [], ◌∷◌, length, filter, cond, Result, Ok, Err, refl, sym, ap, subst, ◌∙◌, arith, Contains, AllPairs, All, get_or, slice_index, slice_index_or, if◌then◌else◌, sum_by}
+use Rattle.std.proofs.Common.{◌≡◌, ◌≢◌, ◌<◌, ◌≤◌, ◌+◌, ◌-◌, ◌*◌, ◌/◌, ◌==◌, ◌||◌, ◌⊎◌, inl, inr, ℕ, zero, suc, Bool, true, false, List, [], ◌∷◌, length, filter, cond, Result, Ok, Err, refl, sym, ap, subst, ◌∙◌, arith, Contains, AllPairs, get_or, slice_index, slice_index_or, if◌then◌else◌}
 use Rattle.std.specs.Prelude.{IfOk}
 use Rattle.std.specs.Cmp.{nat_eq_equiv}
 use Rattle.std.proofs.Math.Nat.{mul-le-mul_left}
@@ -17,9 +17,9 @@ use Rattle.rp_evidence.specs.Preference.{IsStrict, IsWeak}
 use Rattle.rp_evidence.specs.Walk.{LeadsTo}
 use Rattle.rp_evidence.specs.declared.failure.Failure.{Failure}
 use Rattle.rp_evidence.proofs.Violations.{violation_leads}
-use Rattle.rp_fit.specs.Kept.{IsConsistent, IsHoutmanMaksIndex, IsSetOfObservations, LiesWithin, NoneKeepsMore}
+use Rattle.rp_fit.specs.Kept.{IsConsistent, IsSetOfObservations, LiesWithin, NoneKeepsMore}
 use Rattle.rp_fit.proofs.ConsistentSets.{consistent_by_ranks}
-use Rattle.rp_fit.specs.Groups.{AllContradict, AreOfKind, Contradict, IsSimpleViolation, allowed_by, allowed_of, is_among, weight_on}
+use Rattle.rp_fit.specs.Groups.{AllContradict, AreOfKind, Contradict, allowed_by, allowed_of, is_among, weight_on}
 use Rattle.rp_fit.specs.KeptEvidence.{ProvesKept}
 use Rattle.rp_check_fit.specs.KeptFailure.{GroupsFail, KeptFails, group_at}
 use Rattle.rp_fit.specs.declared.kept.Group.{Group}

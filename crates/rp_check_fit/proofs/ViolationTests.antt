@@ -1,6 +1,6 @@
 -- What the clauses of a violation find is whether there is one.
-use Rattle.std.proofs.Common.{◌≡◌, ◌-◌, ◌<◌, ℕ, List, Result, Ok, Err, Bool, true, false, inl, inr, refl, arith, length}
-use Rattle.std.specs.Prelude.{◌↔◌, IsTrue}
+use Rattle.std.proofs.Common.{◌≡◌, ℕ, List, Result, Ok, Err, true, inl, inr, refl, arith}
+use Rattle.std.specs.Prelude.{◌↔◌}
 use Rattle.std.specs.Result.{is_ok}
 use Rattle.std.proofs.lemmas.Bool.{false≢true}
 use Rattle.rp_evidence.specs.Garp.{IsViolation, ViolatesByPlaces}

@@ -1,5 +1,5 @@
 -- When numbers of violating pairs fail (this program's own order of clauses; Swofford and Whitney 1987).
-use Rattle.std.specs.Prelude.{List, [], ◌∷◌}
+use Rattle.std.specs.Prelude.{[], ◌∷◌}
 use Rattle.rp_fit.specs.declared.violations.ViolationsPart.{ViolationsPart}
 use Rattle.rp_evidence.specs.Clauses.{Finding, InOrder, Unless}
 use Rattle.rp_evidence.specs.Count.{IsNumberOf}

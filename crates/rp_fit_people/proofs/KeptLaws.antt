@@ -1,9 +1,8 @@
 -- A consistent set is rationalized by a utility: the other choices are held to nothing, so that no walk goes through them.
 -- What some preference rationalizes is consistent: the other choices are replaced by one of the set.
-use Rattle.std.proofs.Common.{◌≡◌, ◌<◌, ◌≤◌, ◌*◌, ◌⊎◌, inl, inr, ℕ, zero, suc, Bool, true, false, List, [], ◌∷◌, length, refl, sym, ap, subst, ◌∙◌, arith, Contains, if◌then◌else◌}
-use Rattle.std.proofs.lemmas.Bool.{false≢true}
+use Rattle.std.proofs.Common.{◌≡◌, ◌<◌, ◌≤◌, ◌*◌, ◌⊎◌, inl, inr, ℕ, Bool, true, false, List, [], ◌∷◌, length, refl, sym, ap, subst, ◌∙◌, arith, Contains, if◌then◌else◌}
 use Rattle.rp_evidence.specs.Demand.{FractionBundle}
-use Rattle.rp_evidence.specs.Garp.{HasNoViolation, IsViolation}
+use Rattle.rp_evidence.specs.Garp.{HasNoViolation}
 use Rattle.rp_evidence.specs.Input.{TableInput}
 use Rattle.rp_evidence.specs.Preference.{IsOwnStrict, IsOwnWeak, IsStrict, IsWeak}
 use Rattle.rp_evidence.specs.Walk.{HasStepFrom, LeadsTo}
@@ -16,15 +15,12 @@ use Rattle.rp_fit.specs.Kept.{IsConsistent, IsSetOfObservations, LiesWithin, Non
 use Rattle.rp_fit.specs.KeptEvidence.{ProvesKept}
 use Rattle.rp_fit.specs.declared.kept.KeptPart.{KeptPart}
 use Rattle.rp_fit.proofs.ConsistentSets.{goes_within, starts_within}
-use Rattle.rp_people.specs.Bundles.{IsBundle}
 use Rattle.rp_people.specs.Choices.{Choices, IsAffordable, IsStrictChoice, IsWeakChoice, MeetAxiom}
-use Rattle.rp_people.specs.Preferences.{IsAtLeastAsGood, shown_by}
-use Rattle.rp_people.specs.Rationalizing.{HasConcaveUtility, IsBest}
+use Rattle.rp_people.specs.Preferences.{shown_by}
 use Rattle.rp_people.specs.TableChoices.{IsFullInput, choices_at, choices_held_to}
-use Rattle.rp_people.specs.Utilities.{preference_of}
 use Rattle.rp_people.proofs.Chains.{meets_axiom}
 use Rattle.rp_people.proofs.TableLaws.{held_utility}
-use Rattle.rp_fit_people.specs.KeptPeople.{FitsKept, HaveConcaveUtility, NoneFitsMore, RationalizesKept}
+use Rattle.rp_fit_people.specs.KeptPeople.{FitsKept, HaveConcaveUtility, NoneFitsMore}
 use Rattle.rp_fit_people.proofs.Members.{among_is_there, contains_cases, there_is_among}
 
 module _ (input : TableInput) (full : IsFullInput input) (set : List ℕ) (is_set : IsSetOfObservations input.n set) where

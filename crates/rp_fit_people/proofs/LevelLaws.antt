@@ -1,12 +1,11 @@
 -- The choices of a table, each held to a level that is any fraction, meet the axiom exactly where its levels do.
-use Rattle.std.proofs.Common.{◌≡◌, ◌<◌, ◌≤◌, ◌+◌, ◌*◌, ◌↔◌, ℕ, zero, suc, refl, sym, ap, subst, ◌∙◌, arith}
+use Rattle.std.proofs.Common.{◌≡◌, ◌<◌, ◌≤◌, ◌*◌, ◌↔◌, ℕ, zero, suc, sym, ap, ◌∙◌, arith}
 use Rattle.std.proofs.Math.Nat.{mul-le-mul_left}
 use Rattle.rp_evidence.specs.Demand.{FractionBundle}
 use Rattle.rp_evidence.specs.Input.{TableInput}
 use Rattle.rp_evidence.specs.Preference.{IsStrictAt, IsWeakAt}
 use Rattle.rp_evidence.proofs.SameCosts.{no_violation_same}
 use Rattle.rp_table.specs.Spending.{spending}
-use Rattle.rp_table.specs.Sums.{sum_below}
 use Rattle.rp_fit.specs.Levels.{AreLevels, MeetsGarpAtLevels}
 use Rattle.rp_people.specs.Choices.{AreChoices, IsStrictChoice, IsWeakChoice, MeetAxiom}
 use Rattle.rp_people.specs.Rationalizing.{Fits, HasConcaveUtility, HasNonsatiatedPreference}

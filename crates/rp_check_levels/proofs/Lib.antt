@@ -1,0 +1,9 @@
+pub mod Carried
+pub mod CarriedSteps
+pub mod StepsBound
+pub mod LevelsLower
+pub mod LevelsUpper
+pub mod Floors
+pub mod Sums
+pub mod StrictWalks
+pub mod Sound

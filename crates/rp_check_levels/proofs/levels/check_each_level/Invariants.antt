@@ -1,0 +1,8 @@
+use Rattle.std.proofs.Common.{ℕ, ◌<◌}
+use Rattle.rp_check_levels.specs.LevelsFailure.{IsLevelAt}
+use Rattle.rp_table.specs.Cost.{cost_of}
+use Rattle.rp_table.specs.Tables.{records_of}
+use Rattle.rp_check_levels.proofs.levels.check_each_level.Given as goal
+
+abbrev pub invariant-loop-s : goal.invariant-loop-s
+invariant-loop-s l = (s : ℕ) → s < l.s → IsLevelAt (records_of l.input.table.now) (cost_of l.input.table.now) l.at s

@@ -1,0 +1,12 @@
+use Rattle.std.proofs.Common.{arith}
+use Rattle.rp_check_levels.specs.LevelsFailure.{FallsBelow}
+use Rattle.rp_evidence.proofs.ClauseLemmas.{first_not}
+use Rattle.rp_evidence.specs.declared.failure.Reason.TheVariants.{Order}
+use Rattle.rp_table.specs.Cost.{cost_of}
+use Rattle.rp_table.specs.Tables.{records_of}
+use Rattle.rp_check_levels.proofs.levels.check_falls.Goals as goal
+
+pub returns-then-not-falls_below : goal.returns-then-not-falls_below
+returns-then-not-falls_below c =
+    let table = c.args.input.now.table.now in
+    first_not (records_of table) c.loop-s.s (FallsBelow (records_of table) (cost_of table) c.args.at.now c.args.ranks.now) Order c.fails.result (omega arith) c.loop-s.invariant (λ holds. absurd (cc (c.falls_below.ensures.1 holds))) c.fails.ensures

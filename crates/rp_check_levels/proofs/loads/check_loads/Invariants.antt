@@ -1,0 +1,9 @@
+use Rattle.std.proofs.Common.{ℕ, ◌<◌}
+use Rattle.rp_check_levels.specs.Loads.{IsWithinLimits}
+use Rattle.rp_table.specs.Cost.{cost_of}
+use Rattle.rp_table.specs.Tables.{records_of}
+use Rattle.rp_check_levels.proofs.loads.check_loads.Given as goal
+
+abbrev pub invariant-loop-s : goal.invariant-loop-s
+invariant-loop-s l =
+    (s : ℕ) → s < l.s → IsWithinLimits (records_of l.input.table.now) (cost_of l.input.table.now) l.measure l.den l.walks s
