@@ -17,6 +17,17 @@ PANEL = f"{TOP}/crates/rp_panel_program/out/rp_panel_program"
 TOGETHER = {"stdin": subprocess.DEVNULL, "stdout": subprocess.PIPE, "stderr": subprocess.STDOUT, "text": True, "errors": "replace"}
 
 
+def help_if_asked():
+    """Prints what the script that runs says at its head, and ends with 0, where the words ask for help; argparse does it itself."""
+    said = getattr(sys.modules["__main__"], "__doc__", None)
+    if said and "argparse" not in sys.modules and {"-h", "--help"} & {*sys.argv[1:]}:
+        print(said.strip())
+        sys.exit(0)
+
+
+help_if_asked()
+
+
 class Stopped(Exception):
     """Why something is not made, in one line."""
 
