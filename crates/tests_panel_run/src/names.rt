@@ -34,6 +34,11 @@ const ROWS: &[Row<'static>] = &[
     },
     Row {
         words: b"--demand\0n.csv\0l.csv\0",
+        number: 0,
+        names: "l.csv\0n.csv\0",
+    },
+    Row {
+        words: b"--demand\0n.csv\0",
         number: 2,
         names: "",
     },
