@@ -3,7 +3,7 @@ use borrow.Author.Differences.{up, down}
 use Rattle.std.proofs.Common.{◌≡◌, ◌+◌, ◌↔◌, ℕ, inl, inr, Option, Some, None, refl, arith}
 use Rattle.std.proofs.lemmas.Bool.{cases_lt}
 use Rattle.std.proofs.lemmas.Int.{ints}
-use Rattle.std.specs.Prelude.{Bool, IsTrue, ℤ, ◌<ℤ◌, ◌≤ℤ◌}
+use Rattle.std.specs.Prelude.{ℤ, ◌<ℤ◌, ◌≤ℤ◌}
 use Rattle.rp_evidence.specs.Demand.{FractionBundle}
 use Rattle.rp_evidence.specs.Input.{TableInput}
 use Rattle.rp_evidence.specs.WelfareModels.{CostsAtLeast}
@@ -13,7 +13,7 @@ use Rattle.rp_people.specs.Bundles.{IsBundle}
 use Rattle.rp_producers.specs.CostAxiom.{BreaksCostAxiom, MeetsCostAxiom}
 use Rattle.rp_producers.specs.ProductionSets.{HasConvexProductionSet, HasProductionSet}
 use Rattle.rp_producers.specs.ProfitAxiom.{BreaksProfitAxiom, MeetsProfitAxiom, profit}
-use Rattle.rp_producers.specs.RequirementSets.{AreRequirementSets, HasConvexRequirementSets, HasRequirementSets, RationalizeCost}
+use Rattle.rp_producers.specs.RequirementSets.{AreRequirementSets, HasConvexRequirementSets, HasRequirementSets, RationalizeCost, sets_by}
 use Rattle.rp_producers.proofs.Producers.{convex_cost_sets, convex_profit_sets, cost_sets, enough_suffices, profit_sets, sufficing_is_outer}
 use Rattle.rp_cost.specs.Axioms.{AreFirstBroken}
 use Rattle.rp_cost.specs.CostBounds.{BoundProducers, IsUpperCostBound, ProvesLowerCost, SufficesAt}
@@ -67,8 +67,8 @@ convex_profit_sets_where input y p verdict first = through (profit_where input.n
 -- ---- the bounds
 
 module _ (input : TableInput) (y : ℕ → ℕ) (y0 : ℕ) (prices : ℕ → ℕ) where
-  module _ (suffices : ℕ → FractionBundle → Bool) (sets : AreRequirementSets input.goods suffices) (rationalize : RationalizeCost input y suffices) where
-    at_least : (lower : Bound) → ProvesLowerCost input y y0 prices lower → (x : FractionBundle) → IsBundle x → IsTrue (suffices y0 x) → CostsAtLeast input prices x lower
+  module _ (suffices : ℕ → FractionBundle → Type 0) (sets : AreRequirementSets input.goods suffices) (rationalize : RationalizeCost input y suffices) where
+    at_least : (lower : Bound) → ProvesLowerCost input y y0 prices lower → (x : FractionBundle) → IsBundle x → suffices y0 x → CostsAtLeast input prices x lower
     at_least (Shown value pair) is x ix there = is.none_less x (sufficing_is_outer input y suffices sets rationalize y0 x ix there)
     at_least (Wide step) is x ix there = tt
 
@@ -79,6 +79,6 @@ module _ (input : TableInput) (y : ℕ → ℕ) (y0 : ℕ) (prices : ℕ → ℕ
   pub bound_producers : (lower : Bound) (upper : Option Upper) → ProvesLowerCost input y y0 prices lower → IsUpperCostBound input y y0 prices upper
       → BoundProducers input y y0 prices (record { upper = upper; lower = lower })
   bound_producers lower upper proves given = record {
-    none_cheaper = λ suffices sets rationalize. at_least suffices sets rationalize lower proves;
-    enough = λ suffices sets rationalize. suffice_at suffices sets rationalize upper given;
+    none_cheaper = λ passes sets rationalize. at_least (sets_by passes) sets rationalize lower proves;
+    enough = λ passes sets rationalize. suffice_at (sets_by passes) sets rationalize upper given;
   }

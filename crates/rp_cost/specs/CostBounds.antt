@@ -1,6 +1,6 @@
 -- Bounds on what an output costs at new prices (Varian 1984): when evidence on them holds, what it proves, and what is
 -- given.
-use Rattle.std.specs.Prelude.{◌≡◌, ℕ, ◌*◌, ◌<◌, ◌≤◌, Bool, IsTrue, List, [], Option, Some, None, length, slice_index}
+use Rattle.std.specs.Prelude.{◌≡◌, ℕ, ◌*◌, ◌<◌, ◌≤◌, Bool, List, [], Option, Some, None, length, slice_index}
 use Rattle.rp_simplex.specs.ProgramBound.{IsBoundOf}
 use Rattle.rp_evidence.specs.BoundEvidence.{BoundHolds}
 use Rattle.rp_evidence.specs.Demand.{FractionBundle, spending}
@@ -13,7 +13,7 @@ use Rattle.rp_farkas.specs.declared.entry.Pair.{Pair}
 use Rattle.rp_num.specs.Fraction.{Fraction}
 use Rattle.rp_people.specs.Bundles.{IsBundle}
 use Rattle.rp_producers.specs.OuterSet.{IsLowerCost, IsUpperCost, ListsNotAbove, NoneMakes}
-use Rattle.rp_producers.specs.RequirementSets.{AreRequirementSets, RationalizeCost}
+use Rattle.rp_producers.specs.RequirementSets.{AreRequirementSets, RationalizeCost, sets_by}
 use Rattle.rp_cost.specs.declared.bounds.CostBounds.{CostBounds}
 use Rattle.rp_cost.specs.declared.upper.Upper.{Upper}
 
@@ -69,18 +69,19 @@ module _ (input : TableInput) (y : ℕ → ℕ) (y0 : ℕ) (prices : ℕ → ℕ
   -- ---- what it says of producers
 
   -- the inputs of the upper bound's observation suffice for y0
-  abbrev pub SufficesAt : (ℕ → FractionBundle → Bool) → Option Upper → Type 0
+  abbrev pub SufficesAt : (ℕ → FractionBundle → Type 0) → Option Upper → Type 0
   SufficesAt suffices None = Unit {0}
-  SufficesAt suffices (Some upper) = IsTrue (suffices y0 (bundle_at input upper.at))
+  SufficesAt suffices (Some upper) = suffices y0 (bundle_at input upper.at)
 
   -- by all nested and disposable requirement sets that rationalize what was seen, what suffices for y0 costs at least a
   -- shown bound from below at the new prices, and the inputs of the observation of the one from above suffice for it
   pub record BoundProducers (bounds : CostBounds) : Type 0 where
-    pub none_cheaper : (suffices : ℕ → FractionBundle → Bool) → AreRequirementSets input.goods suffices
-        → RationalizeCost input y suffices → (x : FractionBundle) → IsBundle x → IsTrue (suffices y0 x)
-        → CostsAtLeast input prices x bounds.lower
-    pub enough : (suffices : ℕ → FractionBundle → Bool) → AreRequirementSets input.goods suffices
-        → RationalizeCost input y suffices → SufficesAt suffices bounds.upper
+    pub none_cheaper : (passes : ℕ → FractionBundle → (ℕ → ℕ) → Bool)
+        → AreRequirementSets input.goods (sets_by passes) → RationalizeCost input y (sets_by passes)
+        → (x : FractionBundle) → IsBundle x → sets_by passes y0 x → CostsAtLeast input prices x bounds.lower
+    pub enough : (passes : ℕ → FractionBundle → (ℕ → ℕ) → Bool)
+        → AreRequirementSets input.goods (sets_by passes) → RationalizeCost input y (sets_by passes)
+        → SufficesAt (sets_by passes) bounds.upper
 
 -- A shown bound from below is at most the one from above, where there is one.
 abbrev pub IsAtMostUpper : Bound → Option Upper → Type 0

@@ -1,4 +1,5 @@
 mod Examples
+pub mod Contradictions
 pub mod CountMore
 pub mod DrawnLemmas
 pub mod SpentLemmas

@@ -34,6 +34,10 @@ appended_more f n x old here more so is pushed =
     pushed ∙ ap (λ (l : List ℕ). l ++ x ∷ []) so ∙ append_assoc old (listed n f) (x ∷ [])
     ∙ ap (λ (l : List ℕ). old ++ l) (listed-more f n x (listed n f) (λ i. listed n f) is)
 
+-- costs that agree violate the same
+same_violations : (n : ℕ) (c d : ℕ → ℕ → ℕ) → AgreeBelow n c d → HasSomeViolation n (IsWeak c) (IsStrict c) ↔ HasSomeViolation n (IsWeak d) (IsStrict d)
+same_violations n c d agree = (λ v. (v.0, violation_same n c d 1 1 agree v.0 v.1), λ v. (v.0, violation_same n d c 1 1 (agree_back n c d agree) v.0 v.1))
+
 module _ (table : Observations) (words quantities : List ℕ) (drawn : quantities ≡ rows_below (records_of table) (goods_of table) (drawn_quantity table words)) where
   pub quantities_count : length quantities ≡ words_of table
   quantities_count = ap length drawn ∙ length-rows (records_of table) (goods_of table) (drawn_quantity table words)
@@ -41,20 +45,24 @@ module _ (table : Observations) (words quantities : List ℕ) (drawn : quantitie
   pub quantities_within : IsTable table → All IsQuantity quantities
   quantities_within is = subst (All IsQuantity) (sym drawn) (drawn_is_table table words is).quantity_limits
 
-module _ (table : Observations) (words quantities costs : List ℕ) (drawn : quantities ≡ rows_below (records_of table) (goods_of table) (drawn_quantity table words)) (priced : costs ≡ rows_below (records_of table) (records_of table) (cost_among table quantities)) where
-  costs_are : AgreeBelow (records_of table) (cost_in (records_of table) costs) (cost_of (drawn_table table words))
-  costs_are s t s_in t_in =
+module _ (table : Observations) (words quantities : List ℕ) (drawn : quantities ≡ rows_below (records_of table) (goods_of table) (drawn_quantity table words)) where
+  costs_drawn : AgreeBelow (records_of table) (cost_among table quantities) (cost_of (drawn_table table words))
+  costs_drawn s t s_in t_in = ap (λ (q : List ℕ). cost_among table q s t) drawn
+
+  -- what the quantities violate, the drawn table does
+  pub some_drawn : HasSomeViolation (records_of table) (IsWeak (cost_among table quantities)) (IsStrict (cost_among table quantities)) ↔ FailsAxiom (drawn_table table words)
+  some_drawn = same_violations (records_of table) (cost_among table quantities) (cost_of (drawn_table table words)) costs_drawn
+
+module _ (table : Observations) (quantities costs : List ℕ) (priced : costs ≡ rows_below (records_of table) (records_of table) (cost_among table quantities)) where
+  costs_listed : AgreeBelow (records_of table) (cost_in (records_of table) costs) (cost_among table quantities)
+  costs_listed s t s_in t_in =
       let n = records_of table in
       ap (λ (l : List ℕ). get_or l (s * n + t) 0) priced ∙ row_number n n (cost_among table quantities) s t s_in t_in
-      ∙ ap (λ (q : List ℕ). cost_among table q s t) drawn
 
-  -- what the costs violate, the drawn table does
-  pub some_drawn : HasSomeViolation (records_of table) (IsWeak (cost_in (records_of table) costs)) (IsStrict (cost_in (records_of table) costs)) ↔ FailsAxiom (drawn_table table words)
-  some_drawn =
-      let n = records_of table in
-      let c = cost_in n costs in
-      let d = cost_of (drawn_table table words) in
-      (λ v. (v.0, violation_same n c d 1 1 costs_are v.0 v.1), λ v. (v.0, violation_same n d c 1 1 (agree_back n c d costs_are) v.0 v.1))
+  -- what the listed costs violate, the quantities do
+  pub some_listed : HasSomeViolation (records_of table) (IsWeak (cost_in (records_of table) costs)) (IsStrict (cost_in (records_of table) costs))
+      ↔ HasSomeViolation (records_of table) (IsWeak (cost_among table quantities)) (IsStrict (cost_among table quantities))
+  some_listed = same_violations (records_of table) (cost_in (records_of table) costs) (cost_among table quantities) costs_listed
 
   pub costs_count : length costs ≡ records_of table * records_of table
   costs_count = ap length priced ∙ length-rows (records_of table) (records_of table) (cost_among table quantities)

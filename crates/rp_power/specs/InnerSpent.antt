@@ -12,3 +12,7 @@ cost_among table quantities s t =
 -- the cost of the bundle of t at the prices of s in a list of n by n costs, by prices and then bundles
 abbrev pub cost_in : ℕ → List ℕ → ℕ → ℕ → ℕ
 cost_in n costs = cost_at (record { n = n; entries = costs; levels = [] })
+
+-- what the bundle of t costs at its own prices
+abbrev pub own_cost_among : Observations → List ℕ → ℕ → ℕ
+own_cost_among table quantities t = cost_among table quantities t t

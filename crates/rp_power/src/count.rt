@@ -1,15 +1,17 @@
 //! How many random behaviours fail the axiom.
-ghost use Rattle.std.specs.Prelude.{◌≡◌, ◌↔◌, ◌*◌, [], IfOk, IsTrue, OnOk, length};
+ghost use Rattle.std.specs.Prelude.{◌≡◌, ◌↔◌, ◌*◌, [], All, IfOk, IsTrue, OnOk, length};
 ghost use Rattle.rp_power.specs.Words.{after_words, word_after};
 ghost use Rattle.rp_evidence.specs.Preference.{IsStrict, IsWeak};
 ghost use Rattle.rp_evidence.specs.Garp.{HasSomeViolation};
 ghost use Rattle.rp_num.specs.Below.{listed};
-ghost use Rattle.rp_power.specs.PowerCount.{IsPowerCount};
-ghost use Rattle.rp_power.specs.InnerSpent.{cost_in};
+ghost use Rattle.rp_power.specs.PowerCount.{IsPowerCount, words_of};
+ghost use Rattle.rp_power.specs.InnerSpent.{cost_among, cost_in};
 ghost use Rattle.rp_table.specs.Cost.{IsCostsOf};
+ghost use Rattle.rp_table.specs.Limits.{IsQuantity};
 ghost use Rattle.rp_table.specs.Tables.{records_of};
 
 use crate::behaviour::draw_quantities;
+use crate::contradiction::{fill_own_costs, has_contradiction};
 use crate::spending::{Spending, fill_costs};
 use crate::words::{draw, generator};
 use rand_pcg::Lcg64Xsh32;
@@ -37,7 +39,8 @@ pub fn power(
     let mut shares = Vec::new(alloc);
     let mut bundle = Vec::new(alloc);
     let mut quantities = Vec::new(alloc);
-    let mut spent = Vec::new(alloc);
+    let mut own = Vec::new(alloc);
+    let mut every = Vec::new(alloc);
     let mut violations = 0;
     for _ in 0..draws {
         draw_words(&mut generator, table.n() * table.goods(), &mut words)?;
@@ -50,8 +53,7 @@ pub fn power(
             &mut bundle,
             &mut quantities,
         )?;
-        fill_costs(table, quantities.as_slice(), &mut spent)?;
-        let failed = fails(alloc, table, spent.as_slice())?;
+        let failed = quantities_fail(alloc, table, quantities.as_slice(), &mut own, &mut every)?;
         violations += u32::from(failed);
     }
     Ok(violations)
@@ -67,6 +69,30 @@ fn draw_words(generator: &mut Lcg64Xsh32, count: u32, words: &mut Vec<u32>) -> R
         words.push(draw(generator))?;
     }
     Ok(())
+}
+
+/// Whether quantities, by observation and then good, fail the axiom at the prices of a table. The costs of bundles where
+/// they are bought stand in `own`. Those of all bundles at all prices stand in `every`, where no two bundles contradict
+/// each other.
+fn quantities_fail(
+    alloc: Global,
+    table: &Table,
+    quantities: &[u32],
+    own: &mut Vec<u64>,
+    every: &mut Vec<u64>,
+) -> Result<bool, NoMemory>
+    requires all { length quantities.now ≡ words_of table.now }
+    requires limits { All IsQuantity quantities.now }
+    ensures { IfOk result (λ failed. IsTrue failed ↔ HasSomeViolation (records_of table.now)
+        (IsWeak (cost_among table.now quantities.now))
+        (IsStrict (cost_among table.now quantities.now))) }
+{
+    fill_own_costs(table, quantities, own)?;
+    if has_contradiction(table, quantities, own.as_slice()) {
+        return Ok(true);
+    }
+    fill_costs(table, quantities, every)?;
+    fails(alloc, table, every.as_slice())
 }
 
 /// Whether costs, by prices and then bundles, fail the axiom.

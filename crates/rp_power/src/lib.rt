@@ -4,6 +4,7 @@
 #![tactic(auto)]
 
 mod behaviour;
+mod contradiction;
 mod count;
 mod report;
 mod shares;

@@ -87,12 +87,24 @@ fn push_costs_at(
     ensures { OnOk result (costs.new.items ≡ costs.old.items
         ++ listed (records_of table.now) (cost_among table.now quantities.now s)) }
 {
-    let prices = table.prices(s);
     for t in 0..table.n() {
-        let bundle = bundle_at(quantities, prices.len(), t);
-        costs.push(cost_of_bundle(prices, bundle))?;
+        costs.push(drawn_cost(table, quantities, s, t))?;
     }
     Ok(())
+}
+
+/// What the bundle of `t` among quantities costs at the prices of observation `s`, scaled by both scales.
+pub(crate) fn drawn_cost(table: &Table, quantities: &[u32], s: u32, t: u32) -> u64
+    requires prices { s < records_of table.now }
+    requires bundle { t < records_of table.now }
+    requires all { length quantities.now ≡ words_of table.now }
+    requires limits { All IsQuantity quantities.now }
+    ensures { result ≡ cost_among table.now quantities.now s t }
+{
+    prove!(table.goods() > 0);
+    let prices = table.prices(s);
+    let bundle = bundle_at(quantities, prices.len(), t);
+    cost_of_bundle(prices, bundle)
 }
 
 /// The bundle of observation `t` among quantities.

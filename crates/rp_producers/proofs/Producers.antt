@@ -16,7 +16,7 @@ use Rattle.rp_producers.specs.ProfitAxiom.{MeetsProfitAxiom}
 use Rattle.rp_producers.specs.ProductionSets.{HasConvexProductionSet, HasProductionSet, IsConvexProductionSet}
 use Rattle.rp_producers.specs.ProductionSets.{RationalizesProfit}
 use Rattle.rp_producers.specs.RequirementSets.{AreConvex, AreRequirementSets, HasConvexRequirementSets}
-use Rattle.rp_producers.specs.RequirementSets.{HasAtLeastAsMuch, HasRequirementSets, RationalizeCost}
+use Rattle.rp_producers.specs.RequirementSets.{HasAtLeastAsMuch, HasRequirementSets, RationalizeCost, sets_by}
 
 -- ---- tests of all numbers below a bound
 
@@ -73,53 +73,68 @@ spending_at_least goods prices x z more = go goods more
         let b : prices k * (x.num k * z.den) ≤ prices k * (z.num k * x.den) = mul-le-mul_left (prices k) (h k (omega arith)) in
         omega arith
 
+-- ---- two families that say the same, such as one and what a test of it shows
+
+module _ (P Q : ℕ → FractionBundle → Type 0) (same : (output : ℕ) (x : FractionBundle) → P output x ↔ Q output x) where
+  sets_same : (goods : ℕ) → AreRequirementSets goods P → AreRequirementSets goods Q
+  sets_same goods sets = record {
+    nested = λ low high x ix less e. (same low x).0 (sets.nested low high x ix less ((same high x).1 e));
+    disposable = λ output x z ix iz more e. (same output z).0 (sets.disposable output x z ix iz more ((same output x).1 e));
+  }
+
+  convex_same : AreConvex P → AreConvex Q
+  convex_same convex output a b x z some ix iz first second =
+      (same output (mixture a b x z)).0 (convex output a b x z some ix iz ((same output x).1 first) ((same output z).1 second))
+
+  rationalize_same : (input : TableInput) (y : ℕ → ℕ) → RationalizeCost input y P → RationalizeCost input y Q
+  rationalize_same input y is = record {
+    enough = λ s a. (same (y s) (bundle_at input s)).0 (is.enough s a);
+    none_cheaper = λ s x a ix e. is.none_cheaper s x a ix ((same (y s) x).1 e);
+  }
+
+  set_same : (goods : ℕ) → IsConvexProductionSet goods P → IsConvexProductionSet goods Q
+  set_same goods set = record {
+    disposable = λ low high x z ix iz less more e. (same low z).0 (set.disposable low high x z ix iz less more ((same high x).1 e));
+    convex = λ output first second a b x z some ix iz total one other.
+        (same output (mixture a b x z)).0 (set.convex output first second a b x z some ix iz total ((same first x).1 one) ((same second z).1 other));
+  }
+
+  profit_same : (input : TableInput) (y p : ℕ → ℕ) → RationalizesProfit input y p P → RationalizesProfit input y p Q
+  profit_same input y p is = record {
+    has_each = λ s a. (same (y s) (bundle_at input s)).0 (is.has_each s a);
+    none_makes_more = λ s output x a ix e. is.none_makes_more s output x a ix ((same output x).1 e);
+  }
+
 -- ---- cost
 
 module _ (input : TableInput) (y : ℕ → ℕ) where
-  module _ (suffices : ℕ → FractionBundle → Bool) (sets : AreRequirementSets input.goods suffices) (rationalize : RationalizeCost input y suffices) where
-    meets_cost : MeetsCostAxiom input.n input.cost y
+  module _ (suffices : ℕ → FractionBundle → Type 0) (sets : AreRequirementSets input.goods suffices) (rationalize : RationalizeCost input y suffices) where
+    pub meets_cost : MeetsCostAxiom input.n input.cost y
     meets_cost t s a b less =
         let there = sets.nested (y t) (y s) (bundle_at input s) (omega arith) less (rationalize.enough s b) in
         let l = rationalize.none_cheaper t (bundle_at input s) a (omega arith) there in
         let e = input.sums t s a b in
         omega arith
 
-    pub sufficing_is_outer : (y0 : ℕ) (x : FractionBundle) → IsBundle x → IsTrue (suffices y0 x) → IsInOuterSet input y y0 x
+    pub sufficing_is_outer : (y0 : ℕ) (x : FractionBundle) → IsBundle x → suffices y0 x → IsInOuterSet input y y0 x
     sufficing_is_outer y0 x ix there = record {
       fraction = ix;
       dear = λ t a less. rationalize.none_cheaper t x a ix (sets.nested (y t) y0 x ix less there);
     }
 
-    pub enough_suffices : (y0 s : ℕ) → s < input.n → y0 ≤ y s → IsTrue (suffices y0 (bundle_at input s))
+    pub enough_suffices : (y0 s : ℕ) → s < input.n → y0 ≤ y s → suffices y0 (bundle_at input s)
     enough_suffices y0 s a less = sets.nested y0 (y s) (bundle_at input s) (omega arith) less (rationalize.enough s a)
 
   -- the outer set: what costs at least what was spent at each observation that made as much or less
-  outer_suffices : ℕ → FractionBundle → Bool
-  outer_suffices output x = all_below input.n (λ t. where_true (nat_le (y t) output) (nat_le (x.den * input.cost t t) (spending input.goods (input.price t) x.num)))
-
-  abbrev IsDear : ℕ → FractionBundle → Type 0
-  IsDear output x = (t : ℕ) → t < input.n → y t ≤ output → x.den * input.cost t t ≤ spending input.goods (input.price t) x.num
-
-  dear_there : (output : ℕ) (x : FractionBundle) → (IsTrue (outer_suffices output x) → IsDear output x) × (IsDear output x → IsTrue (outer_suffices output x))
-  unfolding outer_suffices
-  dear_there output x = (
-    λ e t l less.
-        (le_test (x.den * input.cost t t) (spending input.goods (input.price t) x.num)).0
-        (true_where (nat_le (y t) output) (nat_le (x.den * input.cost t t) (spending input.goods (input.price t) x.num))
-        (all_there input.n (λ t. where_true (nat_le (y t) output) (nat_le (x.den * input.cost t t) (spending input.goods (input.price t) x.num))) e t l) ((le_test (y t) output).1 less)),
-    λ dear.
-        there_all input.n (λ t. where_true (nat_le (y t) output) (nat_le (x.den * input.cost t t) (spending input.goods (input.price t) x.num)))
-        (λ t l. where_there (nat_le (y t) output) (nat_le (x.den * input.cost t t) (spending input.goods (input.price t) x.num))
-        (λ e. (le_test (x.den * input.cost t t) (spending input.goods (input.price t) x.num)).1 (dear t l ((le_test (y t) output).0 e)))),
-  )
+  abbrev outer_suffices : ℕ → FractionBundle → Type 0
+  outer_suffices output x = (t : ℕ) → t < input.n → y t ≤ output → x.den * input.cost t t ≤ spending input.goods (input.price t) x.num
 
   outer_sets : AreRequirementSets input.goods outer_suffices
   outer_sets = record {
-    nested = λ low high x ix less e. (dear_there low x).1 (λ t l made. (dear_there high x).0 e t l (omega (arith, less, made)));
-    disposable = λ output x z ix iz more e.
-        (dear_there output z).1 (λ t l made.
+    nested = λ low high x ix less e t l made. e t l (omega (arith, less, made));
+    disposable = λ output x z ix iz more e t l made.
         through x.den z.den (input.cost t t) (spending input.goods (input.price t) x.num) (spending input.goods (input.price t) z.num) ix
-        ((dear_there output x).0 e t l made) (spending_at_least input.goods (input.price t) x z more));
+        (e t l made) (spending_at_least input.goods (input.price t) x z more);
   }
     where
       through : (d e c a b : ℕ) → 0 < d → d * c ≤ a → a * e ≤ b * d → e * c ≤ b
@@ -128,33 +143,58 @@ module _ (input : TableInput) (y : ℕ → ℕ) where
           le_of_mul-le-mul_left {k = d} (omega arith) some
 
   outer_convex : AreConvex outer_suffices
-  outer_convex output a b x z some ix iz first second =
-      (dear_there output (mixture a b x z)).1 (λ t l made.
-      let h : (a * z.den) * (x.den * input.cost t t) ≤ (a * z.den) * spending input.goods (input.price t) x.num = mul-le-mul_left (a * z.den) ((dear_there output x).0 first t l made) in
-      let k : (b * x.den) * (z.den * input.cost t t) ≤ (b * x.den) * spending input.goods (input.price t) z.num = mul-le-mul_left (b * x.den) ((dear_there output z).0 second t l made) in
+  outer_convex output a b x z some ix iz first second t l made =
+      let h : (a * z.den) * (x.den * input.cost t t) ≤ (a * z.den) * spending input.goods (input.price t) x.num = mul-le-mul_left (a * z.den) (first t l made) in
+      let k : (b * x.den) * (z.den * input.cost t t) ≤ (b * x.den) * spending input.goods (input.price t) z.num = mul-le-mul_left (b * x.den) (second t l made) in
       let e = spending_mixture input.goods (input.price t) a b x z in
-      omega arith)
+      omega arith
 
   outer_rationalize : MeetsCostAxiom input.n input.cost y → RationalizeCost input y outer_suffices
   outer_rationalize holds = record {
-    enough = λ s a.
-        (dear_there (y s) (bundle_at input s)).1 (λ t l made.
+    enough = λ s a t l made.
         let e = input.sums t s l a in
         let h = holds t s l a made in
-        omega arith);
-    none_cheaper = λ s x a ix e. (dear_there (y s) x).0 e s a (omega arith);
+        omega arith;
+    none_cheaper = λ s x a ix e. e s a (omega arith);
   }
+
+  -- a test that needs no evidence shows it
+  abbrev outer_passes : ℕ → FractionBundle → (ℕ → ℕ) → Bool
+  outer_passes output x evidence = all_below input.n (λ t. where_true (nat_le (y t) output) (nat_le (x.den * input.cost t t) (spending input.goods (input.price t) x.num)))
+
+  outer_shown : (output : ℕ) (x : FractionBundle) → outer_suffices output x ↔ sets_by outer_passes output x
+  outer_shown output x = (
+    λ dear. (
+      λ k. 0,
+      there_all input.n (λ t. where_true (nat_le (y t) output) (nat_le (x.den * input.cost t t) (spending input.goods (input.price t) x.num)))
+          (λ t l. where_there (nat_le (y t) output) (nat_le (x.den * input.cost t t) (spending input.goods (input.price t) x.num))
+          (λ e. (le_test (x.den * input.cost t t) (spending input.goods (input.price t) x.num)).1 (dear t l ((le_test (y t) output).0 e)))),
+    ),
+    λ shown t l less.
+        (le_test (x.den * input.cost t t) (spending input.goods (input.price t) x.num)).0
+        (true_where (nat_le (y t) output) (nat_le (x.den * input.cost t t) (spending input.goods (input.price t) x.num))
+        (all_there input.n (λ t. where_true (nat_le (y t) output) (nat_le (x.den * input.cost t t) (spending input.goods (input.price t) x.num))) shown.1 t l) ((le_test (y t) output).1 less)),
+  )
 
   pub cost_sets : HasRequirementSets input y ↔ MeetsCostAxiom input.n input.cost y
   cost_sets = (
-    λ has. meets_cost has.suffices has.sets has.rationalize,
-    λ holds. record { suffices = outer_suffices; sets = outer_sets; rationalize = outer_rationalize holds },
+    λ has. meets_cost (sets_by has.passes) has.sets has.rationalize,
+    λ holds. record {
+      passes = outer_passes;
+      sets = sets_same outer_suffices (sets_by outer_passes) outer_shown input.goods outer_sets;
+      rationalize = rationalize_same outer_suffices (sets_by outer_passes) outer_shown input y (outer_rationalize holds);
+    },
   )
 
   pub convex_cost_sets : HasConvexRequirementSets input y ↔ MeetsCostAxiom input.n input.cost y
   convex_cost_sets = (
-    λ has. meets_cost has.suffices has.sets has.rationalize,
-    λ holds. record { suffices = outer_suffices; sets = outer_sets; convex = outer_convex; rationalize = outer_rationalize holds },
+    λ has. meets_cost (sets_by has.passes) has.sets has.rationalize,
+    λ holds. record {
+      passes = outer_passes;
+      sets = sets_same outer_suffices (sets_by outer_passes) outer_shown input.goods outer_sets;
+      convex = convex_same outer_suffices (sets_by outer_passes) outer_shown outer_convex;
+      rationalize = rationalize_same outer_suffices (sets_by outer_passes) outer_shown input y (outer_rationalize holds);
+    },
   )
 
 -- ---- profit
@@ -185,36 +225,20 @@ times_less a k v c d h =
 
 module _ (input : TableInput) (y p : ℕ → ℕ) where
   -- at the prices of no observation the output and its inputs make more profit than was made there
-  outer_feasible : ℕ → FractionBundle → Bool
-  outer_feasible output x = all_below input.n (λ t. nat_le ((p t * output) * x.den + input.cost t t * x.den) ((p t * y t) * x.den + spending input.goods (input.price t) x.num))
-
-  abbrev MakesNoMore : ℕ → FractionBundle → Type 0
-  MakesNoMore output x = (t : ℕ) → t < input.n → (p t * output) * x.den + input.cost t t * x.den ≤ (p t * y t) * x.den + spending input.goods (input.price t) x.num
-
-  no_more_there : (output : ℕ) (x : FractionBundle) → (IsTrue (outer_feasible output x) → MakesNoMore output x) × (MakesNoMore output x → IsTrue (outer_feasible output x))
-  unfolding outer_feasible
-  no_more_there output x = (
-    λ e t l.
-        (le_test ((p t * output) * x.den + input.cost t t * x.den) ((p t * y t) * x.den + spending input.goods (input.price t) x.num)).0
-        (all_there input.n (λ t. nat_le ((p t * output) * x.den + input.cost t t * x.den) ((p t * y t) * x.den + spending input.goods (input.price t) x.num)) e t l),
-    λ none.
-        there_all input.n (λ t. nat_le ((p t * output) * x.den + input.cost t t * x.den) ((p t * y t) * x.den + spending input.goods (input.price t) x.num))
-        (λ t l. (le_test ((p t * output) * x.den + input.cost t t * x.den) ((p t * y t) * x.den + spending input.goods (input.price t) x.num)).1 (none t l)),
-  )
+  abbrev outer_feasible : ℕ → FractionBundle → Type 0
+  outer_feasible output x = (t : ℕ) → t < input.n → (p t * output) * x.den + input.cost t t * x.den ≤ (p t * y t) * x.den + spending input.goods (input.price t) x.num
 
   outer_set : IsConvexProductionSet input.goods outer_feasible
   outer_set = record {
-    disposable = λ low high x z ix iz less more e.
-        (no_more_there low z).1 (λ t l.
+    disposable = λ low high x z ix iz less more e t l.
         through (p t) low high (input.cost t t) (y t) x.den z.den (spending input.goods (input.price t) x.num) (spending input.goods (input.price t) z.num) ix less
-        ((no_more_there high x).0 e t l) (spending_at_least input.goods (input.price t) x z more));
-    convex = λ output first second a b x z some ix iz same one other.
-        (no_more_there output (mixture a b x z)).1 (λ t l.
+        (e t l) (spending_at_least input.goods (input.price t) x z more);
+    convex = λ output first second a b x z some ix iz same one other t l.
         let e = spending_mixture input.goods (input.price t) a b x z in
-        let h = mul-le-mul_left (a * z.den) ((no_more_there first x).0 one t l) in
-        let k = mul-le-mul_left (b * x.den) ((no_more_there second z).0 other t l) in
+        let h = mul-le-mul_left (a * z.den) (one t l) in
+        let k = mul-le-mul_left (b * x.den) (other t l) in
         let m = ap (λ v. (p t * (x.den * z.den)) * v) same in
-        omega arith);
+        omega arith;
   }
     where
       through : (q low high c v d e a b : ℕ) → 0 < d → low ≤ high → (q * high) * d + c * d ≤ (q * v) * d + a → a * e ≤ b * d → (q * low) * e + c * e ≤ (q * v) * e + b
@@ -225,16 +249,30 @@ module _ (input : TableInput) (y p : ℕ → ℕ) where
 
   outer_profit : MeetsProfitAxiom input.n input.cost y p → RationalizesProfit input y p outer_feasible
   outer_profit holds = record {
-    has_each = λ s a.
-        (no_more_there (y s) (bundle_at input s)).1 (λ t l.
+    has_each = λ s a t l.
         let e = input.sums t s l a in
         let h = more_less (p t * y s) (input.cost t s) (p t * y t) (input.cost t t) (holds t s l a) in
-        omega arith);
+        omega arith;
     none_makes_more = λ s output x a ix e.
-        less_times ((p s * output) * x.den) (spending input.goods (input.price s) x.num) (p s * y s) (input.cost s s) x.den ((no_more_there output x).0 e s a);
+        less_times ((p s * output) * x.den) (spending input.goods (input.price s) x.num) (p s * y s) (input.cost s s) x.den (e s a);
   }
 
-  meets_profit : (feasible : ℕ → FractionBundle → Bool) → RationalizesProfit input y p feasible → MeetsProfitAxiom input.n input.cost y p
+  abbrev feasible_passes : ℕ → FractionBundle → (ℕ → ℕ) → Bool
+  feasible_passes output x evidence = all_below input.n (λ t. nat_le ((p t * output) * x.den + input.cost t t * x.den) ((p t * y t) * x.den + spending input.goods (input.price t) x.num))
+
+  feasible_shown : (output : ℕ) (x : FractionBundle) → outer_feasible output x ↔ sets_by feasible_passes output x
+  feasible_shown output x = (
+    λ none. (
+      λ k. 0,
+      there_all input.n (λ t. nat_le ((p t * output) * x.den + input.cost t t * x.den) ((p t * y t) * x.den + spending input.goods (input.price t) x.num))
+          (λ t l. (le_test ((p t * output) * x.den + input.cost t t * x.den) ((p t * y t) * x.den + spending input.goods (input.price t) x.num)).1 (none t l)),
+    ),
+    λ shown t l.
+        (le_test ((p t * output) * x.den + input.cost t t * x.den) ((p t * y t) * x.den + spending input.goods (input.price t) x.num)).0
+        (all_there input.n (λ t. nat_le ((p t * output) * x.den + input.cost t t * x.den) ((p t * y t) * x.den + spending input.goods (input.price t) x.num)) shown.1 t l),
+  )
+
+  pub meets_profit : (feasible : ℕ → FractionBundle → Type 0) → RationalizesProfit input y p feasible → MeetsProfitAxiom input.n input.cost y p
   meets_profit feasible rationalizes t s a b =
       let h = times_less ((p t * y s) * 1) (spending input.goods (input.price t) (input.quantity s)) (p t * y t) (input.cost t t) 1
       (rationalizes.none_makes_more t (y s) (bundle_at input s) a (omega arith) (rationalizes.has_each s b)) in
@@ -243,12 +281,16 @@ module _ (input : TableInput) (y p : ℕ → ℕ) where
 
   pub profit_sets : HasProductionSet input y p ↔ MeetsProfitAxiom input.n input.cost y p
   profit_sets = (
-    λ has. meets_profit has.feasible has.rationalizes,
-    λ holds. record { feasible = outer_feasible; rationalizes = outer_profit holds },
+    λ has. meets_profit (sets_by has.passes) has.rationalizes,
+    λ holds. record { passes = feasible_passes; rationalizes = profit_same outer_feasible (sets_by feasible_passes) feasible_shown input y p (outer_profit holds) },
   )
 
   pub convex_profit_sets : HasConvexProductionSet input y p ↔ MeetsProfitAxiom input.n input.cost y p
   convex_profit_sets = (
-    λ has. meets_profit has.feasible has.rationalizes,
-    λ holds. record { feasible = outer_feasible; set = outer_set; rationalizes = outer_profit holds },
+    λ has. meets_profit (sets_by has.passes) has.rationalizes,
+    λ holds. record {
+      passes = feasible_passes;
+      set = set_same outer_feasible (sets_by feasible_passes) feasible_shown input.goods outer_set;
+      rationalizes = profit_same outer_feasible (sets_by feasible_passes) feasible_shown input y p (outer_profit holds);
+    },
   )

@@ -4,6 +4,7 @@
 
 mod definitions;
 mod laws;
+mod sets;
 
 pub use definitions::{
     production_sets_in_small_cases, rationalizing_sets_in_small_cases,
@@ -13,3 +14,4 @@ pub use laws::{
     cost_axiom_is_of_requirement_sets, cost_bounds_hold_for_requirement_sets,
     profit_axiom_is_of_production_sets,
 };
+pub use sets::InputSets;

@@ -4,7 +4,7 @@ use Rattle.rp_power.specs.DrawnTable.{drawn_table}
 use Rattle.rp_power.specs.PowerCount.{FailsAxiom, behaviour, behaviour_words, words_of}
 use Rattle.rp_power.proofs.CountMore.{none_of_none, number_told, one_at_most}
 use Rattle.rp_power.proofs.DrawnLemmas.{count_of}
-use Rattle.rp_power.proofs.SpentLemmas.{both, costs_count, quantities_count, quantities_within, some_drawn}
+use Rattle.rp_power.proofs.SpentLemmas.{both, quantities_count, quantities_within, some_drawn}
 use Rattle.rp_power.proofs.WordBlocks.{block_words, first_block, next_block}
 use Rattle.rp_power.proofs.count.power.Goals as goal
 
@@ -20,18 +20,13 @@ draw_quantities-requires-clause-words c =
     let size : c.n.result * c.goods.result ≡ words_of c.args.table.now = λ i. c.n.ensures.count i * c.goods.ensures.count i in
     ap length c.as_slice-drawn.ensures.value ∙ count_of (word_after c.loop.generator) (c.n.result * c.goods.result) c.draw_words.new.words.items c.in_ok-draw_words.ensures.drawn ∙ size
 
-pub fill_costs-requires-clause-all : goal.fill_costs-requires-clause-all
-fill_costs-requires-clause-all c =
+pub quantities_fail-requires-clause-all : goal.quantities_fail-requires-clause-all
+quantities_fail-requires-clause-all c =
     quantities_count c.args.table.now c.as_slice-drawn.result.now c.as_slice.result.now (c.as_slice.ensures.value ∙ c.in_ok-draw_quantities.ensures)
 
-pub fill_costs-requires-clause-limits : goal.fill_costs-requires-clause-limits
-fill_costs-requires-clause-limits c =
+pub quantities_fail-requires-clause-limits : goal.quantities_fail-requires-clause-limits
+quantities_fail-requires-clause-limits c =
     quantities_within c.args.table.now c.as_slice-drawn.result.now c.as_slice.result.now (c.as_slice.ensures.value ∙ c.in_ok-draw_quantities.ensures) c.n.ensures.valid
-
-pub fails-requires : goal.fails-requires
-fails-requires c =
-    costs_count c.args.table.now c.as_slice-drawn.result.now c.as_slice.result.now c.as_slice-in-loop.result.now
-    (c.as_slice.ensures.value ∙ c.in_ok-draw_quantities.ensures) (c.as_slice-in-loop.ensures.value ∙ c.in_ok-fill_costs.ensures)
 
 pub loop-preserved : goal.loop-preserved
 loop-preserved c =
@@ -42,7 +37,7 @@ loop-preserved c =
     let size : c.n.result * c.goods.result ≡ words_of table = λ i. c.n.ensures.count i * c.goods.ensures.count i in
     let words = block_words seed (words_of table) k c.loop.generator c.draw_words.new.words.items i.moved (rw size at c.in_ok-draw_words.ensures.drawn) in
     let drawn : c.as_slice-drawn.result.now ≡ behaviour_words table seed k = c.as_slice-drawn.ensures.value ∙ words in
-    let some = some_drawn table c.as_slice-drawn.result.now c.as_slice.result.now c.as_slice-in-loop.result.now (c.as_slice.ensures.value ∙ c.in_ok-draw_quantities.ensures) (c.as_slice-in-loop.ensures.value ∙ c.in_ok-fill_costs.ensures) in
+    let some = some_drawn table c.as_slice-drawn.result.now c.as_slice.result.now (c.as_slice.ensures.value ∙ c.in_ok-draw_quantities.ensures) in
     let told = subst (λ w. IsTrue c.in_ok-failed.failed ↔ FailsAxiom (drawn_table table w)) drawn (both c.in_ok-failed.ensures some) in
     record {
       moved = next_block seed (words_of table) k c.loop.generator c.draw_words.new.generator i.moved (rw size at c.in_ok-draw_words.ensures.moved);
