@@ -1,5 +1,5 @@
 //! The answer to a line over its files, by its command.
-ghost use Rattle.std.specs.Prelude.{◌≡◌, [], IfOk, MatchResult, Ok};
+ghost use Rattle.std.specs.Prelude.{◌≡◌, [], IfOk};
 ghost use Rattle.rp_answers.specs.PowerText.{IsPowerText};
 ghost use Rattle.rp_answers.specs.TrialText.{IsTrialTextBy};
 ghost use Rattle.rp_commands.specs.Answers.{AnswersLineBy};
@@ -9,17 +9,13 @@ ghost use Rattle.rp_command_line.specs.declared.commands.Command.TheVariants as 
 ghost use Rattle.rp_command_line.specs.Named.{named_arguments, named_line};
 ghost use Rattle.rp_command_line.specs.Ranges.{IsSized};
 
-use crate::contents::{
-    load_menus_with_units, load_patches, load_patches_certificate, load_table, load_table_bundles,
-    load_table_certificate, load_table_prices, load_table_prices_with_expenditure,
-    load_technology_asked,
+use crate::by_command::{
+    answer_check, answer_check_random, answer_cost, answer_demand, answer_menus, answer_patches,
+    answer_random, answer_utility, answer_welfare, done,
 };
+use crate::contents::load_table;
 use crate::files::Cause;
-use rp_answers::{
-    Answer, Edition, Status, analysis_text, check_answer, check_random_answer, cost_text,
-    demand_text, menus_text, pairs_text, patches_text, power_text, pump_text, random_text,
-    trial_text, utility_text, welfare_text,
-};
+use rp_answers::{Answer, Edition, analysis_text, pairs_text, power_text, pump_text, trial_text};
 use rp_command_line::{Command, Line};
 use rp_limits::command_line::MOST_DRAWS;
 use rp_num::NoMemory;
@@ -50,46 +46,17 @@ pub(crate) fn answer_line<'a, P: Edition, D: Desk>(
             &load_table::<P, D>(alloc, desk, line)?,
             true,
         )),
-        Command::Check => {
-            let (table, certificate) = load_table_certificate::<P, D>(alloc, desk, line)?;
-            whole(check_answer(alloc, &table, &certificate))
-        }
-        Command::Demand => {
-            let (table, new) = load_table_prices_with_expenditure::<P, D>(alloc, desk, line)?;
-            done(demand_text::<P>(alloc, &table, &new, line.arguments.json))
-        }
-        Command::Welfare => {
-            let (table, new) = load_table_prices::<P, D>(alloc, desk, line)?;
-            done(welfare_text::<P>(alloc, &table, &new, line.arguments.json))
-        }
-        Command::Utility => {
-            let (table, bundles) = load_table_bundles::<P, D>(alloc, desk, line)?;
-            done(utility_text(alloc, &table, &bundles))
-        }
-        Command::Random => {
-            let (patches, types) = load_patches::<P, D>(alloc, desk, line)?;
-            done(random_text(alloc, &patches, &types, line.arguments.json))
-        }
-        Command::CheckRandom => {
-            let (patches, types, certificate) = load_patches_certificate::<P, D>(
-                alloc, desk, line,
-            )?;
-            whole(check_random_answer(alloc, &patches, &types, &certificate))
-        }
-        Command::Patches => {
-            let (patches, _types) = load_patches::<P, D>(alloc, desk, line)?;
-            done(patches_text(alloc, &patches))
-        }
+        Command::Check => answer_check::<P, D>(alloc, desk, line),
+        Command::Demand => answer_demand::<P, D>(alloc, desk, line),
+        Command::Welfare => answer_welfare::<P, D>(alloc, desk, line),
+        Command::Utility => answer_utility::<P, D>(alloc, desk, line),
+        Command::Random => answer_random::<P, D>(alloc, desk, line),
+        Command::CheckRandom => answer_check_random::<P, D>(alloc, desk, line),
+        Command::Patches => answer_patches::<P, D>(alloc, desk, line),
         Command::Trial => done(text_of_trial::<P>(alloc, line)),
-        Command::Menus => {
-            let (seen, units) = load_menus_with_units::<P, D>(alloc, desk, line)?;
-            done(menus_text(alloc, &seen, &units, line.arguments.per))
-        }
+        Command::Menus => answer_menus::<P, D>(alloc, desk, line),
         Command::Pump => done(pump_text(alloc, &load_table::<P, D>(alloc, desk, line)?)),
-        Command::Cost => {
-            let (tech, asked) = load_technology_asked::<P, D>(alloc, desk, line)?;
-            done(cost_text::<P>(alloc, &tech, &asked))
-        }
+        Command::Cost => answer_cost::<P, D>(alloc, desk, line),
         Command::Power => done(text_of_power(alloc, line, &load_table::<P, D>(alloc, desk, line)?)),
     }
 }
@@ -119,29 +86,4 @@ fn text_of_power(alloc: Global, line: &Line<'_>, table: &Table) -> Result<Vec<u8
     let draws = line.arguments.number(1);
     prove!(draws <= MOST_DRAWS);
     power_text(alloc, table, seed, draws)
-}
-
-/// The answer with a text that was made, or want of memory.
-fn done<'a>(text: Result<Vec<u8>, NoMemory>) -> Result<Answer, Cause<'a>>
-    ensures { MatchResult result
-        (λ answer. (answer.status ≡ Status.Done) × (text ≡ Ok answer.text))
-        (λ why. why ≡ Cause.NoMemory) }
-{
-    match text {
-        Ok(text) => Ok(Answer {
-            status: Status::Done,
-            text,
-        }),
-        Err(_) => Err(Cause::NoMemory),
-    }
-}
-
-/// An answer that was made with its status, or want of memory.
-fn whole<'a>(answer: Result<Answer, NoMemory>) -> Result<Answer, Cause<'a>>
-    ensures { MatchResult result (λ whole. answer ≡ Ok whole) (λ why. why ≡ Cause.NoMemory) }
-{
-    match answer {
-        Ok(answer) => Ok(answer),
-        Err(_) => Err(Cause::NoMemory),
-    }
 }

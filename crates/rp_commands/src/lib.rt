@@ -2,6 +2,7 @@
 #![tactic(auto)]
 
 mod answer;
+mod by_command;
 mod contents;
 mod fault_text;
 mod faults;
