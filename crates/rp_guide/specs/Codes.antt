@@ -49,10 +49,13 @@ code_by_word word text =
 abbrev pub check_code : List ℕ → List ℕ
 check_code text = code_by_word (first_word text) text
 
--- of these codes the one that is noted
+-- of these codes those that are noted
 abbrev pub noted : List ℕ → List ℕ
-noted code = if bytes_eq code (codes "Nothing") then codes "Nothing" else []
+noted code =
+    if bytes_eq code (codes "Nothing") then codes "Nothing"
+    else if bytes_eq code (codes "Accepted") then codes "Accepted"
+    else []
 
--- the code of the note beside a checker's verdict: it is told where a certificate has no items
+-- the code of the note beside a checker's verdict: it is told where a certificate is accepted
 abbrev pub note_code : List ℕ → List ℕ
 note_code text = noted (check_code text)

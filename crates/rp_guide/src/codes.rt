@@ -18,8 +18,8 @@ pub fn check_code<'a>(text: &'a [u8]) -> &'a [u8]
     code_by_word(first_word(text), text)
 }
 
-/// The code of the note beside a checker's verdict, which is told where a certificate has no items, and nothing for
-/// other texts.
+/// The code of the note beside a checker's verdict: whether the items of an accepted certificate prove something, or it
+/// has none. Rejections and other texts have no note.
 pub fn note_code(text: &[u8]) -> &'static [u8]
     ensures { result.now ≡ codes.note_code text.now }
 {
@@ -39,12 +39,14 @@ fn code_by_word<'a>(word: &[u8], text: &'a [u8]) -> &'a [u8]
     }
 }
 
-/// Of these codes the one that is noted.
+/// Of these codes those that are noted.
 fn noted(code: &[u8]) -> &'static [u8]
     ensures { result.now ≡ codes.noted code.now }
 {
     if code == b"Nothing".as_slice() {
         b"Nothing"
+    } else if code == b"Accepted".as_slice() {
+        b"Accepted"
     } else {
         b""
     }

@@ -263,7 +263,7 @@ pub const HINTS: [(&[u8], &[u8]); 65] = [
     ),
     (
         b"Accepted",
-        b"Each item proves its result for exactly these data; a value that is left out is not proved.",
+        b"Each item proves its result for exactly these data; a value that is left out is not proved. rp-wide check --help and checkrandom --help say what each kind of item proves.",
     ),
     (
         b"Nothing",

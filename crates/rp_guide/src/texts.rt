@@ -101,7 +101,74 @@ pub(crate) const WIDE_PAGES: [(&[u8], &[u8]); 16] = [
             accepted item proves its result for exactly this table.\n\
             \n\
             TABLE     a CSV file with a row for each observation, and p_NAME and q_NAME for each good\n\
-            CERT      a certificate in JSON, as certify, demand --json and welfare --json write it\n",
+            CERT      a certificate in JSON, as certify, demand --json and welfare --json write it\n\
+            \n\
+            What an accepted item proves, for exactly these data:\n\
+            \n\
+            garp holds\n\
+            \x20   One consumer with a utility function, who prefers more of every good, could have made all of\n\
+            \x20   these choices. In each, no bundle that cost as much or less is better than the chosen one.\n\
+            garp violated\n\
+            \x20   No consumer with locally nonsatiated preferences could have made all of these choices. In\n\
+            \x20   particular, no consumer who prefers more of every good could have.\n\
+            afriat model\n\
+            \x20   By the utility function of the numbers, no bundle that cost as much or less is better than\n\
+            \x20   the chosen one.\n\
+            afriat none\n\
+            \x20   No consumer with locally nonsatiated preferences could have made all of these choices. In\n\
+            \x20   particular, no consumer who prefers more of every good could have.\n\
+            efficiency index, 1, attained\n\
+            \x20   One consumer could have made all of these choices, with all of the expenditure counted.\n\
+            efficiency index, 1, not attained\n\
+            \x20   If some part of each expenditure is ignored, however small, one consumer could have made all\n\
+            \x20   of these choices. If all of it counts, no consumer with locally nonsatiated preferences\n\
+            \x20   could have. In particular, no consumer who prefers more of every good could have.\n\
+            efficiency index, below 1, attained\n\
+            \x20   If LEVEL of each expenditure counts, one consumer could have made all of these choices. If\n\
+            \x20   any larger part counts, no consumer with locally nonsatiated preferences could have. In\n\
+            \x20   particular, no consumer who prefers more of every good could have.\n\
+            efficiency index, below 1, not attained\n\
+            \x20   If any part below LEVEL of each expenditure counts, one consumer could have made all of\n\
+            \x20   these choices. If LEVEL or more counts, no consumer with locally nonsatiated preferences\n\
+            \x20   could have. In particular, no consumer who prefers more of every good could have.\n\
+            homothetic holds\n\
+            \x20   One consumer with a homothetic utility function could have made all of these choices: twice\n\
+            \x20   the bundle has twice the utility.\n\
+            homothetic violated\n\
+            \x20   No consumer with homothetic and locally nonsatiated preferences could have made all of these\n\
+            \x20   choices.\n\
+            quasilinear holds\n\
+            \x20   If prices are in units of one numeraire, one consumer with a quasilinear utility function\n\
+            \x20   could have made all of these choices. In each, no bundle is worth more, less its cost, than\n\
+            \x20   the chosen one.\n\
+            quasilinear violated\n\
+            \x20   If prices are in units of one numeraire, no consumer with a quasilinear utility function\n\
+            \x20   could have made all of these choices. Whatever bundles are worth in money, in some\n\
+            \x20   observation another bundle is worth more, less its cost, than the chosen one.\n\
+            demand bounds, lower\n\
+            \x20   No consumer who could have made these choices buys less of GOOD on this budget than LOWER.\n\
+            \x20   For any larger amount, some consumer who could have made them buys less.\n\
+            demand bounds, upper\n\
+            \x20   No consumer who could have made these choices buys more of GOOD on this budget than UPPER.\n\
+            \x20   For any smaller amount, some consumer who could have made them buys more.\n\
+            demand none\n\
+            \x20   GARP is violated, so the demand does not have bounds. No consumer with locally nonsatiated\n\
+            \x20   preferences could have made all of these choices. In particular, no consumer who prefers\n\
+            \x20   more of every good could have.\n\
+            welfare bounds, lower\n\
+            \x20   Every consumer who could have made these choices needs at least LOWER at the new prices to\n\
+            \x20   be as well off as at observation OBSERVATION.\n\
+            welfare bounds, upper\n\
+            \x20   For every consumer who could have made these choices, the bundle of observation AT is at\n\
+            \x20   least as good as the bundle of observation OBSERVATION. It costs UPPER at the new prices.\n\
+            welfare none\n\
+            \x20   GARP is violated, so the money metric does not have bounds. No consumer with locally\n\
+            \x20   nonsatiated preferences could have made all of these choices. In particular, no consumer who\n\
+            \x20   prefers more of every good could have.\n\
+            \n\
+            A value that is left out (withheld) proves nothing. With efficiency levels (a column e), garp\n\
+            and afriat are about the part of each expenditure that its level names; the other items do not\n\
+            use levels.\n",
     ),
     (
         b"demand",
@@ -155,7 +222,30 @@ pub(crate) const WIDE_PAGES: [(&[u8], &[u8]); 16] = [
             BUDGETS   a CSV file with a row for each budget: p_NAME for each good, and the income w\n\
             CHOICES   a CSV file with a row for each choice: q_NAME for each good, budget, and n people\n\
             CERT      a certificate in JSON, as random --json writes it\n\
-            --per N   round the shares of each budget to N parts, if their common denominator is too large\n",
+            --per N   round the shares of each budget to N parts, if their common denominator is too large\n\
+            \n\
+            What an accepted item proves, for exactly these data:\n\
+            \n\
+            random mixture\n\
+            \x20   A population whose members each have a utility function, and prefer more of every good,\n\
+            \x20   could have made these shares. The shares are taken as exact: sampling error is not modelled.\n\
+            random violated\n\
+            \x20   No population whose members each have locally nonsatiated preferences, and choose the best\n\
+            \x20   that the income buys, could have made these shares. A population of this kind makes at most\n\
+            \x20   SHARE of them. The shares are taken as exact: sampling error is not modelled.\n\
+            random mixture, with --per N\n\
+            \x20   A population whose members each have a utility function, and prefer more of every good,\n\
+            \x20   could have made the rounded shares. Shares are rounded to UNITS units on each budget. This\n\
+            \x20   says nothing about the shares before rounding. The shares are taken as exact: sampling error\n\
+            \x20   is not modelled.\n\
+            random violated, with --per N\n\
+            \x20   No population whose members each have locally nonsatiated preferences, and choose the best\n\
+            \x20   that the income buys, could have made the rounded shares. Shares are rounded to UNITS units\n\
+            \x20   on each budget. A population of this kind makes at most SHARE of them. This says nothing\n\
+            \x20   about the shares before rounding. The shares are taken as exact: sampling error is not\n\
+            \x20   modelled.\n\
+            \n\
+            A verdict that is left out (withheld) proves nothing.\n",
     ),
     (
         b"patches",

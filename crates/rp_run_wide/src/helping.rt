@@ -11,7 +11,7 @@ use std::alloc::Global;
 
 /// Answers the words of a command line as the program `rp-wide` does. `--help`, `COMMAND --help` and `--version` write a
 /// text to `out`, and no file is read. All other words are answered as by `run_wide`, with two differences on `err`: a
-/// line that says what to do follows each error, and a line follows the verdict on a certificate without items.
+/// line that says what to do follows each error, and a line follows the verdict on an accepted certificate.
 pub fn run_wide_with_help<D: Desk, O: Sink, E: Sink>(
     alloc: Global,
     words: &Vec<String>,

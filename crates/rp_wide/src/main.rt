@@ -2,6 +2,9 @@
 //! `run_wide_with_help`.
 #![tactic(auto)]
 
+mod missing;
+
+use missing::tell_missing;
 use rp_commands::Status;
 use rp_outside::{FileDesk, StdSink};
 use rp_run_wide::run_wide_with_help;
@@ -24,6 +27,9 @@ fn main(rt: HostRuntime) -> ExitCode {
     let mut out = StdSink::new(rt.stdout());
     let mut err = StdSink::new(rt.stderr());
     let status = run_wide_with_help(rt.alloc(), &words, &mut desk, &mut out, &mut err);
+    if status == Status::ReadFault {
+        tell_missing(&rt, rt.alloc(), words.as_slice(), &mut err);
+    }
     ExitCode::from(status.number())
 }
 

@@ -96,7 +96,8 @@ const ENDINGS: &[(&[&str], Status, &str, &str)] = &[
         &["rp-wide", "check", "t.csv", "cycle.json"],
         Status::Done,
         "accepted items 1 withheld 0\n",
-        "",
+        "note: Each item proves its result for exactly these data; a value that is left out is not \
+        proved. rp-wide check --help and checkrandom --help say what each kind of item proves.\n",
     ),
     (
         &["rp-wide", "check", "t.csv", "ranks.json"],
@@ -150,6 +151,8 @@ fn each_command_has_a_page(rt: HostRuntime) -> Result<(), Fail> {
     let top = run_over(rt.alloc(), &["rp-wide", "--help"], &[], &[])?;
     assert!(rt; top.status == Status::Done && top.err.as_str().is_empty());
     assert!(rt; top.out.as_str().contains("\nusage: rp-wide pairs TABLE\n"));
+    let check = run_over(rt.alloc(), &["rp-wide", "check", "--help"], &[], &[])?;
+    assert!(rt; check.out.as_str().contains("What an accepted item proves"));
     for (command, usage) in PAGES {
         let page = run_over(rt.alloc(), &["rp-wide", command, "--help"], &[], &[])?;
         assert!(rt; page.status == Status::Done && page.err.as_str().is_empty());
