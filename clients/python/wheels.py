@@ -30,6 +30,8 @@ HERE = os.path.dirname(os.path.abspath(__file__))
 ONE_FILE = os.path.join(HERE, "onefile")  # of an sdist that compiles the library
 OLDEST = (2, 17)  # of what needs no version of the C library: the oldest that installers have a name for
 MACHINES = {62: "x86_64", 183: "aarch64"}
+# What has a folder of its own in the repository and in a release, and is inside the package elsewhere.
+PARTS = {f"{NAME}/verifier": os.path.join("second", "python", "verifier"), f"{NAME}/long": os.path.join("clients", "panel", "long")}
 COMMANDS = "[console_scripts]\nrp-panel-long = revealed.long:main\n"
 METADATA = """Metadata-Version: 2.1
 Name: {name}
@@ -174,13 +176,24 @@ def own_license():
 
 
 def sources(top):
-    """Yields the files of a folder by their names there; what was made by running it is left out."""
-    for folder, folders, names in os.walk(os.path.join(HERE, top)):
+    """Yields the files of a folder of the package by their names there, with the parts that have a folder of their own elsewhere."""
+    yield from under(os.path.join(HERE, top), top)
+    for name, place in PARTS.items():
+        if name.startswith(f"{top}/") and not os.path.isdir(os.path.join(HERE, name)):
+            folder = os.path.join(HERE, "..", "..", place)
+            if not os.path.isdir(folder):
+                raise SystemExit(f"wheels: {place} is not there, a part of the package: take the whole repository, or the whole release")
+            yield from under(folder, name)
+
+
+def under(place, top):
+    """Yields the files under a folder, by their names under another; what was made by running them is left out."""
+    for folder, folders, names in os.walk(place):
         folders[:] = sorted(it for it in folders if it != "__pycache__")
         for name in sorted(names):
             path = os.path.join(folder, name)
             if not name.endswith((".pyc", ".so", ".dll")):
-                yield os.path.relpath(path, HERE).replace(os.sep, "/"), bytes_of(path)
+                yield f"{top}/{os.path.relpath(path, place)}".replace(os.sep, "/"), bytes_of(path)
 
 
 def listed(files):

@@ -101,13 +101,14 @@ def debian(entries, programs, library, version, libc, when, archive):
         files[f"usr/share/bash-completion/completions/{it}"] = entries[f"share/bash-completion/completions/{it}"]
     folder = f"usr/share/doc/{NAME}"
     documents = ("docs/", "examples/", "clients/panel/", "crates/")
-    for name in ("NOTICE", "PROVED", "README.md", *(it for it in entries if it.startswith(documents))):
+    modules = {"clients/python/revealed/": "", "second/python/verifier/": "verifier/", "clients/panel/long/": "long/"}
+    for name in ("NOTICE", "PROVED", "README.md", *(it for it in entries if it.startswith(documents) and not it.startswith(tuple(modules)))):
         files[f"{folder}/{name}"] = entries[name]
     # Among the documents the panel stands where these have it, and is the command.
     files[f"{folder}/clients/panel/rp-panel-long"] = ("../../../../../bin/rp-panel-long", False)
     files["usr/bin/rp-panel-long"] = (PANEL.encode(), True)
-    inside = "clients/python/revealed/"
-    files.update({f"{MODULES}/revealed/{it.removeprefix(inside)}": entries[it] for it in entries if it.startswith(inside)})
+    for inside, place in modules.items():
+        files.update({f"{MODULES}/revealed/{place}{it.removeprefix(inside)}": entries[it] for it in entries if it.startswith(inside)})
     files[f"{folder}/changelog.gz"] = (pressed(entries["CHANGELOG.md"][0]), False)
     text = entries["LICENSE"][0].decode()
     files[f"{folder}/copyright"] = ((COPYRIGHT + "".join(f" {it}".rstrip() + "\n" if it.strip() else " .\n" for it in text.splitlines())).encode(), False)

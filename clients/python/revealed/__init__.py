@@ -11,7 +11,7 @@ The verdicts are the program's, each of which is proved; nothing of this package
 is, and what would have to be rounded is refused.
 """
 
-from . import draws, plain
+from . import folders, draws, plain  # noqa: F401
 from .answers import Answers, Certificate, Checked, Demand, Part, Patch, RandomVerdict, Verdict, Welfare
 from .bounds_panel import BoundsPanel, UnitBounds, panel_demand, panel_welfare
 from .clusters import panel_task

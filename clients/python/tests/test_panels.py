@@ -11,7 +11,8 @@ import unittest.mock
 from fractions import Fraction
 
 import revealed
-from revealed import BadData, NoProgram, Unreadable, long_call, long_files, program
+from revealed import BadData, NoProgram, Unreadable, long_call, program
+from revealed.long import files as long_files
 from test_refusals import calls_of
 
 # Two purchases that contradict each other: of a household that is "violated", and in exchange of one that "holds".
