@@ -3,15 +3,19 @@ _rp() {
   local word=${COMP_WORDS[COMP_CWORD]} before=${COMP_WORDS[COMP_CWORD - 1]} options=
   COMPREPLY=()
   if [ "$COMP_CWORD" -eq 1 ]; then
+    # commands: made by tools/make/catalogue
     mapfile -t COMPREPLY < <(compgen -W "pairs analyse certify check demand welfare utility random checkrandom patches trial menus pump cost power" -- "$word")
+    # end of commands
     case ${COMP_WORDS[0]} in *rp-wide) mapfile -t -O "${#COMPREPLY[@]}" COMPREPLY < <(compgen -W "--help --version" -- "$word") ;; esac
     return
   fi
   case ${COMP_WORDS[1]} in
+    # options: made by tools/make/catalogue
     demand | welfare) options="--json" ;;
     random) options="--per --json" ;;
     checkrandom | patches | menus) options="--per" ;;
     trial) return ;;
+    # end of options
   esac
   case ${COMP_WORDS[0]} in *rp-wide) options="$options --help" ;; esac
   if [ "$before" = --per ]; then
@@ -28,7 +32,9 @@ _rp_panel() {
   local word=${COMP_WORDS[COMP_CWORD]} before=${COMP_WORDS[COMP_CWORD - 1]}
   COMPREPLY=()
   if [[ $word == -* ]]; then
-    mapfile -t COMPREPLY < <(compgen -W "--id --keep --pump --power --wide --demand --welfare --help --version" -- "$word")
+    # options of panels: made by tools/make/catalogue
+    mapfile -t COMPREPLY < <(compgen -W "--id --keep --pump --power --demand --welfare --wide --help --version" -- "$word")
+    # end of options of panels
   elif [[ $before != --id && $before != --keep && $before != --power ]]; then
     compopt -o filenames 2>/dev/null
     mapfile -t COMPREPLY < <(compgen -f -- "$word")

@@ -313,9 +313,55 @@ def parted(own):
     return (f"{wrong}." if rest else own), rest
 
 
+# ---- programs
+
+
+PAGES, PANEL_WORDS = "rp_guide/src/texts.rt", "rp_panel_run/specs/Questions.antt"
+
+
+def panel_page():
+    """Returns the lines of the help page of `rp-panel`."""
+    page = need(r"const PANEL_PAGES:.*?^\)\];", PAGES)[0].replace(r"\x20", " ")
+    return [re.sub(r"^ {8}", "", line) for line in re.findall(r"^(.*)\\n(?:\\|\",)$", page, re.M)]
+
+
+def panel_options():
+    """Returns the options of `rp-panel` in the order of its help page: the words that follow each, and what it does."""
+    found = [re.match(r"(--[a-z]+)((?: [A-Z]+)*) {2,}(.*)", line) for line in panel_page()]
+    told = [{"name": it[1], "values": it[2].split(), "says": it[3]} for it in found if it]
+    taken = set(re.findall(r'codes "(--\w+)"', text(PANEL_WORDS)))
+    if {it["name"] for it in told} != taken:
+        raise Unread(f"crates/{PAGES} has other options of rp-panel than crates/{PANEL_WORDS}")
+    return told
+
+
+def panel_columns():
+    """Returns the columns of the tables of panels: of verdicts, and of bounds on demand and on welfare."""
+    verdicts = need(r"^header_fields kept = .*?\[\]\)", "rp_rows/specs/RowText.antt")[0]
+    file = "rp_bound_rows/specs/RowText.antt"
+    bounds = need(r"^header_fields asked kept = .*?\[\]\)", file)[0]
+    about = {name.lower(): word for name, word in re.findall(r'^about_name (\w+) = codes "(\w+)"', text(file), re.M)}
+    own = {name: bounds.replace("about_name asked", f'codes "{word}"') for name, word in about.items()}
+    return {name: re.findall(r'codes "(\w+)"', it) for name, it in {"verdicts": verdicts, **own}.items()}
+
+
+def programs(asked):
+    """Returns the three programs, each with its commands, its forms of words where it has no commands, and its options beside those."""
+    names = [it["name"] for it in asked]
+    wide = [it for it in re.findall(r'^        b"(\w+)",$', need(r"const WIDE_PAGES:.*?^\];", PAGES)[0], re.M)]
+    if wide != names:
+        raise Unread(f"crates/{PAGES} has the pages of other commands than there are")
+    usage = [line.removeprefix("usage:").strip() for line in panel_page() if re.match(r"(usage:| +)rp-panel|usage: rp-panel", line)]
+    return [
+        {"name": "rp", "commands": names, "options": []},
+        {"name": "rp-wide", "commands": wide, "options": ["--help", "--version"]},
+        {"name": "rp-panel", "usage": usage, "options": [*(it["name"] for it in panel_options()), "--help", "--version"]},
+    ]
+
+
 def read():
     refused, told, numbered = faults(), reasons(), statuses()
     return {
         "commands": commands(), "kinds": kinds(), "faults": refused, "limits": limits(), "reasons": told, "statuses": numbered,
-        "certificates": items(), "verdicts": verdicts(), "lines": lines(), "hints": hints(refused, told, numbered),
+        "programs": programs(commands()), "panel_options": panel_options(), "panel_columns": panel_columns(), "certificates": items(), "verdicts": verdicts(), "lines": lines(), "hints": hints(refused, told, numbered),
     }  # fmt: skip

@@ -99,6 +99,9 @@ def debian(entries, programs, library, version, libc, when, archive):
     for it in programs:
         files[f"usr/share/man/man1/{it}.1.gz"] = (pressed(entries[f"share/man/man1/{it}.1"][0]), False)
         files[f"usr/share/bash-completion/completions/{it}"] = entries[f"share/bash-completion/completions/{it}"]
+    files["usr/share/zsh/vendor-completions/_rp"] = entries["share/zsh/site-functions/_rp"]
+    for it in programs:
+        files[f"usr/share/fish/vendor_completions.d/{it}.fish"] = entries["share/fish/vendor_completions.d/rp.fish"]
     folder = f"usr/share/doc/{NAME}"
     documents = ("docs/", "examples/", "clients/panel/", "crates/")
     modules = {"clients/python/revealed/": "", "second/python/verifier/": "verifier/", "clients/panel/long/": "long/"}
