@@ -176,6 +176,8 @@ def of_release(facts):
     yield Place("release/rp.1", "statuses", {str(it["number"]): rf"^\.B {it['number']}$" for it in statuses if it["of"] == "program"},
                 all_of(r"^\.B (\d+)$"), r"^\.SH EXIT STATUS.*?^\.SH", "99")  # fmt: skip
     yield Place("release/rp.1", "limits", said(facts, MANUAL_LIMITS))
+    for page in ("rp", "rp-panel"):
+        yield Place(f"release/{page}.1", "the word -", {"not standard input": r"not standard input"})
     yield Place("release/rp.bash", "commands", {it: rf'-W "[a-z ]*\b{it}\b' for it in names}, lambda own: " ".join(re.findall(r'-W "([a-z ]*)"', own)).split())
     for it in commands:
         own = [re.escape(one["name"]) for one in it["options"]]
