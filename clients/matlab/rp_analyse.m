@@ -1,29 +1,39 @@
 function verdict = rp_analyse(p, q, varargin)
-% RP_ANALYSE  Whether one consumer could have made these purchases, how far off they are, and by what evidence.
+% RP_ANALYSE  Tests a table: GARP, CCEI, Afriat's inequalities, HARP and quasilinear utility.
 %
-%   v = rp_analyse(p, q)             p and q are matrices: a row for each observation, a column for each good
-%   v = rp_analyse(p, q, 'Levels', 0.95)             efficiency levels, a share or thousandths (950): one for all observations, or
-%                                                    one for each (Varian 1990)
-%   v = rp_analyse(p, q, 'Decimals', [2 0])          prices are rounded to 2 decimal places, quantities to none
-%   v = rp_analyse(p, q, 'Numbers', 'exact')         a double is the binary fraction that it is, so 3.18 is refused
-%   v = rp_analyse(p, q, 'Wide', false)              the library as it is, and not what its wider edition gives beside
+%   v = rp_analyse(p, q)                        p and q are matrices: a row for each observation, a column for each good
+%   v = rp_analyse(p, q, 'Levels', 0.95)        efficiency levels (Varian 1990), one for all observations or one for each:
+%                                               a share, or thousandths such as 950
+%   v = rp_analyse(p, q, 'Decimals', [2 0])     prices are rounded to 2 decimal places, quantities to none
+%   v = rp_analyse(p, q, 'Numbers', 'exact')    a double is the binary fraction itself, so 3.18 is rejected
+%   v = rp_analyse(p, q, 'Wide', false)         uses rp alone, without rp-wide
 %
-% A double is taken as the shortest decimal that gives it back: 3.18 is 3.18. One that needs more than 6 decimal places is refused.
-% Whole types and cell arrays of texts ({'3.18', '1'; ..}) are taken as they are. v has the fields
+% A double is read as the shortest decimal that gives it back: 3.18 is 3.18. A double that needs more than 6 decimal places is
+% rejected. Integer types and cell arrays of texts ({'3.18', '1'; ..}) are used exactly. v is a struct with the fields
 %
-%   garp          true or false: the generalized axiom (Varian 1982)
-%   ranks, cycle  what shows it: ranks of the observations, or a violating cycle
-%   efficiency    the critical cost efficiency index, exactly, as a text such as '4/5'
-%   ccei          the same as the nearest double, below 1 unless the index is 1; attained: whether the axiom holds at it
-%   afriat        true, false, or NaN where it is withheld: whether there are Afriat numbers; utility and lambda, doubles
-%   homothetic    the homothetic test (Varian 1983), with homothetic_cycle; NaN where it is withheld
-%   quasilinear   the quasilinear test, with quasilinear_cycle
-%   reasons       of what is withheld, the line of the report
-%   wide          the names of what rp itself withholds, and its wider edition gives: {'homothetic'}, or none
-%   numbers       'shortest decimals of doubles' where a double was taken for a decimal that is another number, else ''
-%   text          the report itself, whose numbers are exact
+%   garp          true or false: GARP (Varian 1982)
+%   ranks, cycle  the evidence: ranks of the observations, or a violating cycle
+%   efficiency    the CCEI (Afriat 1973), exactly, as a text such as '4/5'
+%   ccei          the CCEI as the nearest double, which is 1 only if the CCEI is 1
+%   attained      whether GARP holds at the CCEI itself
+%   afriat        whether Afriat numbers exist (Afriat 1967): true, false, or NaN if undetermined
+%   utility, lambda  the Afriat numbers, as doubles
+%   homothetic    HARP (Varian 1983), with homothetic_cycle; NaN if undetermined
+%   quasilinear   cyclical monotonicity (Brown and Calsamiglia 2007), with quasilinear_cycle
+%   reasons       for each undetermined verdict, the line of the report
+%   wide          the verdicts that rp leaves undetermined and rp-wide found: {'homothetic'}, or none
+%   numbers       'shortest decimals of doubles' if a double was read as a decimal that is another number; '' otherwise
+%   text          the report, whose numbers are exact
 %
-% Proved is the library, and not this function, which reads its report.
+% The library is proved. This function, which reads its report, is tested.
+%
+% References
+%   Afriat, S. N. (1967). The Construction of Utility Functions from Expenditure Data. International Economic Review 8, 67-77.
+%   Afriat, S. N. (1973). On a System of Inequalities in Demand Analysis. International Economic Review 14, 460-472.
+%   Brown, D. J. and Calsamiglia, C. (2007). The Nonparametric Approach to Applied Welfare Analysis. Economic Theory 31, 183-188.
+%   Varian, H. R. (1982). The Nonparametric Approach to Demand Analysis. Econometrica 50, 945-973.
+%   Varian, H. R. (1983). Non-parametric Tests of Consumer Behaviour. Review of Economic Studies 50, 99-110.
+%   Varian, H. R. (1990). Goodness-of-Fit in Optimizing Models. Journal of Econometrics 46, 125-140.
 %
 % See also rp_demand, rp_welfare, rp_panel, rp_plot.
   known = struct('Levels', [], 'Decimals', [], 'Numbers', 'shortest', 'Names', {{}}, 'Wide', true);

@@ -1,8 +1,8 @@
 function rp_build(folder)
 % RP_BUILD  Compiles the library for MATLAB or Octave, once: rp_mex.c with rp.c, by the C compiler that mex has.
 %
-%   rp_build              rp.c and rp.h stand in the folder onefile beside this file, or above it
-%   rp_build(folder)      they stand there
+%   rp_build              rp.c and rp.h are in the folder onefile beside this file, or above this file
+%   rp_build(folder)      rp.c and rp.h are in this folder
 %
 % It takes one to three minutes. In MATLAB, mex -setup names the compiler.
   here = fileparts(mfilename('fullpath'));

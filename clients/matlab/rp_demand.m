@@ -1,16 +1,21 @@
 function found = rp_demand(p, q, new, m, varargin)
-% RP_DEMAND  At new budgets: bounds of each good over all demands with which the purchases keep the axiom (GARP).
+% RP_DEMAND  Bounds on demand at new budgets.
 %
-%   d = rp_demand(p, q, new, m)      new has a row of prices for each budget, m what is spent on each
+%   d = rp_demand(p, q, new, m)      new has a row of prices for each budget, m the expenditure on each
 %
-% Options are those of rp_analyse, without levels. d is a struct array, one for each budget:
+% A demand is consistent if GARP still holds when it is added to the table. The options are those of rp_analyse, without levels. d is
+% a struct array, with an element for each budget:
 %
-%   garp           whether the axiom holds; where it fails, no bundle keeps it, and cycle shows that
-%   lower, upper   the infimum and the supremum of each good, in the units of q; NaN where withheld, with reasons
-%   wide           a row for each good, of the two: whether rp itself withholds it, and its wider edition gives it
-%   inner          one such bundle
-%   below, strict  the observations that the budget is revealed preferred to, and those strictly
-%   text           the lines of the report, whose numbers are exact, in units of the last decimal places
+%   garp           whether GARP holds; if it is violated, no demand is consistent, and cycle has a violating cycle
+%   lower, upper   the infimum and the supremum of each good over all consistent demands, in the units of q
+%   reasons        why a bound is NaN: it is undetermined
+%   wide           a row for each good, for lower and upper: whether only rp-wide found the bound
+%   inner          one consistent demand
+%   below, strict  the observations that the budget is revealed preferred to, and strictly revealed preferred to
+%   text           the lines of the report, whose numbers are exact, in scaled units
+%
+% References
+%   Varian, H. R. (1982). The Nonparametric Approach to Demand Analysis. Econometrica 50, 945-973.
 %
 % See also rp_analyse, rp_welfare.
   options = rp_options(varargin, struct('Decimals', [], 'Numbers', 'shortest', 'Names', {{}}, 'Wide', true));

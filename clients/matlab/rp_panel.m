@@ -1,25 +1,30 @@
 function found = rp_panel(t, key, varargin)
-% RP_PANEL  The verdicts on each unit (subject, household, region) of a long table, by the library's call of panels.
+% RP_PANEL  Tests each unit of a long table, such as a subject or a household.
 %
-%   r = rp_panel(t, 'subject')                 t is a table, or a struct of columns: p_NAME and q_NAME for each good, and the key;
-%                                              a column e has levels of the observations, and obs their labels
-%   r = rp_panel(t, {'town', 'subject'})       several columns tell the units apart
-%   r = rp_panel(.., 'Pump', true)             the greatest money pump ratio too
-%   r = rp_panel(.., 'Power', 100, 'Seed', 7)  how many of 100 random behaviours on the same budgets violate the axiom
-%   r = rp_panel(.., 'Wide', false)            the library as it is, and not what its wider edition gives beside
+%   r = rp_panel(t, 'subject')                 t is a table, or a struct of columns: p_NAME and q_NAME for each good, and the key
+%   r = rp_panel(t, {'town', 'subject'})       several columns identify the units
+%   r = rp_panel(.., 'Pump', true)             adds the maximum money pump index
+%   r = rp_panel(.., 'Power', 100, 'Seed', 7)  adds how many of 100 random behaviours on the same budgets violate GARP
+%   r = rp_panel(.., 'Wide', false)            uses rp alone, without rp-wide
 %
-% Rows stand in the order in which they were chosen; units come in the order in which they first appear, and behind them the
-% rows that have no unit. Blanks round a key are cut. 'Decimals' and 'Numbers' are those of rp_analyse. r is a struct array, of
-% which struct2table makes a table; the key has its own name, and the other fields are those of every panel:
+% 'Decimals' and 'Numbers' are those of rp_analyse. A column e has efficiency levels, and obs has labels. Units come in the order
+% in which they first appear. Rows without a key come last. Blanks around a key are ignored. r is a struct array, which
+% struct2table makes a table. The key has its own name, and the other fields are
 %
-%   observations, goods               how many the unit has
+%   observations, goods               the size of the unit's table
 %   garp, attained                    true or false
-%   homothetic, quasilinear           the same; NaN where it is withheld
+%   homothetic, quasilinear           true or false; NaN if undetermined
 %   efficiency, pump, power           exactly, as texts such as '4/5'; power has the violations over the draws
-%   efficiency_floor, pump_floor      the same as numbers of six places, rounded down; ccei is the nearest double to the index
-%   fault                             '' or why there are no verdicts, with the record and the column of t, and in words as refusal
+%   efficiency_floor, pump_floor      the same numbers, rounded down to six decimal places
+%   ccei                              the nearest double to the CCEI
+%   fault                             '' or the name of the error; the next three fields say where it is, and what to do
+%   record, column, refusal           the row and the column of t, and the error in words
 %
-% A unit with an error takes no other with it. Where all have the same, that is an error.
+% A unit with an error has the error in its row, and the other units are tested. If all units have the same error, the call stops.
+%
+% References
+%   Afriat, S. N. (1973). On a System of Inequalities in Demand Analysis. International Economic Review 14, 460-472.
+%   Varian, H. R. (1982). The Nonparametric Approach to Demand Analysis. Econometrica 50, 945-973.
 %
 % See also rp_analyse.
   known = struct('Pump', false, 'Power', [], 'Seed', 1, 'Wide', true, 'Decimals', [], 'Numbers', 'shortest');

@@ -1,9 +1,9 @@
 function axes_ = rp_plot(p, q, varargin)
-% RP_PLOT  The budget lines and the choices of a table of two goods, and the violating cycle where there is one.
+% RP_PLOT  Draws the budget lines and the choices of a table of two goods, with a cycle that violates GARP.
 %
 %   rp_plot(p, q)          options are those of rp_analyse
 %
-% Budget lines are drawn by what was spent; the picture is in doubles, and decides nothing.
+% Budget lines go through the chosen bundles, by what these cost. The picture is in doubles.
   if size(p, 2) ~= 2
     error('rp:BadData', 'the picture is of two goods, and this table has %d', size(p, 2));
   end

@@ -1,9 +1,13 @@
 function found = rp_power(p, q, seed, draws, varargin)
-% RP_POWER  The power of the test: how many of so many random behaviours on the table's budgets violate the axiom (Bronars 1987).
+% RP_POWER  Counts the random behaviours on the table's budgets that violate GARP.
 %
-%   w = rp_power(p, q, seed, draws)   w.violations of w.draws behaviours; w.power is their share
+%   w = rp_power(p, q, seed, draws)   w.violations counts violations among w.draws draws; w.power is their share
 %
-% Options are those of rp_analyse, without levels. The same seed gives the same behaviours, here and in every other client.
+% Options are those of rp_analyse, without levels. The same seed gives the same draws, here and in every other client. The draws crowd
+% around equal shares. Papers draw uniformly on the budget line, which violates GARP more often.
+%
+% References
+%   Bronars, S. G. (1987). The Power of Nonparametric Tests of Preference Maximization. Econometrica 55, 693-698.
   options = rp_options(varargin, struct('Decimals', [], 'Numbers', 'shortest', 'Names', {{}}));
   file = rp_table(p, q, options);
   words = {'power', file.name, rp_whole(seed, 'the seed'), rp_whole(draws, 'the number of draws')};

@@ -1,10 +1,14 @@
 function found = rp_pump(p, q, varargin)
-% RP_PUMP  The greatest money pump ratio: what a cycle of choices gives away at most, of what was spent along it
-% (Echenique, Lee and Shum 2011).
+% RP_PUMP  Computes the maximum money pump index: the maximum share of expenditure that a cycle loses.
 %
-%   m = rp_pump(p, q)      m.ratio is exact, as a text such as '1/5'; m.pump is the nearest double; m.cycle has the ratio
+%   m = rp_pump(p, q)      m.ratio is exact, as a text such as '1/5'; m.pump is the nearest double; m.cycle has this index
 %
-% Options are those of rp_analyse, without levels.
+% Options are those of rp_analyse, without levels. Echenique, Lee and Shum report the mean over short cycles; this is the maximum over
+% all cycles.
+%
+% References
+%   Echenique, F., Lee, S. and Shum, M. (2011). The Money Pump as a Measure of Revealed Preference Violations. Journal of Political
+%   Economy 119, 1201-1223.
   options = rp_options(varargin, struct('Decimals', [], 'Numbers', 'shortest', 'Names', {{}}));
   file = rp_table(p, q, options);
   text = rp_ask({'pump', file.name}, file);

@@ -1,22 +1,27 @@
 function verdict = rp_random(p, w, budget, q, n, varargin)
-% RP_RANDOM  Whether choices from budgets, made by many people, can come from people who each have a preference
-% (McFadden and Richter 1990; Kitamura and Stoye 2018).
+% RP_RANDOM  Tests random utility: could a population of utility maximizers have made these choices from budgets?
 %
-%   v = rp_random(p, w, budget, q, n)   p has a row of prices for each budget, w its income; budget, q and n have a row for
-%                                       each choice: the number of its budget, the bundle, and how many times it was made
-%   v = rp_random(.., 'Per', N)         each budget has N units, which the shares are rounded to
-%   v = rp_random(.., 'Wide', false)    the library as it is, which refuses choices with more patches or types than it lists
+%   v = rp_random(p, w, budget, q, n)   p has a row of prices for each budget, and w its income. For each choice, budget has the
+%                                       number of its budget, q the bundle, and n the count
+%   v = rp_random(.., 'Per', N)         rounds the shares of each budget to N units
+%   v = rp_random(.., 'Wide', false)    uses rp alone, which rejects choices with too many patches or types
 %
-% v has the fields
+% v is a struct with the fields
 %
-%   rational      true, false, or NaN where it is withheld, with reason
-%   share         the greatest share of the choices that such people make, exactly, as a text; share_double beside it
-%   types, parts  a row for each type of people: its patch of each budget, and its share of all
-%   weights       where it is false: a weight of each patch that shows that no more is possible
-%   wide          whether rp itself refuses these choices, and its wider edition takes them
-%   text          the report itself, whose numbers are exact
+%   rational      true, false, or NaN if undetermined, with reason
+%   share         the maximum share of the choices that such a population could have made, as an exact text
+%   share_double  the same share as a double
+%   types, parts  a row for each rational type: its patch of each budget, and its share of the population
+%   weights       if rational is false: a weight of each patch, which shows that a higher share is impossible
+%   wide          whether rp itself rejects these choices, and rp-wide tested them
+%   text          the report, whose numbers are exact
 %
-% Shares are taken as exact: what a sample leaves to chance is not looked at. Patches are defined in docs/reference/rp-random.md.
+% The shares are taken as exact, so false is not a statistical rejection. docs/reference/rp-random.md defines patches.
+%
+% References
+%   Kitamura, Y. and Stoye, J. (2018). Nonparametric Analysis of Random Utility Models. Econometrica 86, 1883-1909.
+%   McFadden, D. and Richter, M. K. (1990). Stochastic Rationality and Revealed Stochastic Preference. In J. Chipman, D. McFadden
+%   and M. K. Richter (editors), Preferences, Uncertainty, and Optimality. Westview Press.
   options = rp_options(varargin, struct('Per', [], 'Decimals', [], 'Numbers', 'shortest', 'Names', {{}}, 'Wide', true));
   goods = size(p, 2);
   names = options.Names;

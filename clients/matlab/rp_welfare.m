@@ -1,15 +1,20 @@
 function found = rp_welfare(p, q, new, varargin)
-% RP_WELFARE  At new prices: bounds on what it costs to be as well off as at each observation (the money metric).
+% RP_WELFARE  Bounds on the money metric: what it costs at new prices to be as well off as at each observation.
 %
-%   w = rp_welfare(p, q, new)        new has a row of prices for each question
+%   w = rp_welfare(p, q, new)        new has a row for each set of new prices
 %
-% Options are those of rp_analyse, without levels. w is a struct array, one for each row of new:
+% Options are those of rp_analyse, without levels. w is a struct array, with an element for each row of new:
 %
-%   garp    whether the axiom holds; where it fails the rest is NaN, and cycle shows that
-%   lower   for each observation the least that it costs, in the units of money of new; NaN where withheld, with reasons
-%   upper   what it costs at most, which the bundle of the observation in the field at costs
-%   wide    for each observation whether rp itself withholds the lower bound, and its wider edition gives it
-%   text    the lines of the report, whose numbers are exact
+%   garp     whether GARP holds; if it is violated, the bounds are NaN, and cycle has a violating cycle
+%   lower    for each observation the lower bound, in the units of money of new; NaN if undetermined
+%   reasons  why a lower bound is NaN
+%   upper    for each observation the upper bound
+%   at       the observation whose bundle costs the upper bound
+%   wide     for each observation whether only rp-wide found the lower bound
+%   text     the lines of the report, whose numbers are exact
+%
+% References
+%   Varian, H. R. (1982). The Nonparametric Approach to Demand Analysis. Econometrica 50, 945-973.
 %
 % See also rp_analyse, rp_demand.
   options = rp_options(varargin, struct('Decimals', [], 'Numbers', 'shortest', 'Names', {{}}, 'Wide', true));

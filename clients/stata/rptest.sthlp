@@ -12,7 +12,7 @@
 {title:Description}
 
 {pstd}{cmd:rptest} tests whether prices and chosen quantities satisfy the generalized axiom of revealed preference, GARP (Varian
-1982). It computes the critical cost efficiency index, CCEI (Afriat 1973), and tests whether the utility could be homothetic (Varian
+1982). It computes the critical cost efficiency index, CCEI (Afriat 1973). It also tests whether the utility could be homothetic (Varian
 1983) or quasilinear (Brown and Calsamiglia 2007). Each observation of the data is an observation of the test. Prices and
 quantities are matched by the order of their variables.
 
@@ -84,7 +84,7 @@ A verdict is 1 if it holds, 0 if it is violated, and missing if it is undetermin
 {p2col:{cmd:r(pump_ratio)}}the money pump index as a fraction{p_end}
 {p2col:{cmd:r(cycle)}}the observations of a cycle that violates GARP{p_end}
 {p2col:{cmd:r(wide)}}what rp-wide found and rp leaves undetermined (homothetic, demand, welfare){p_end}
-{p2col:{cmd:r(message)}}why there is no verdict{p_end}
+{p2col:{cmd:r(message)}}why a verdict is missing{p_end}
 
 {pstd}With {opt by()}, {cmd:rptest} stores:
 
@@ -97,9 +97,10 @@ A verdict is 1 if it holds, 0 if it is violated, and missing if it is undetermin
 {p2col:{cmd:r(fault}{it:#}{cmd:)}}its error{p_end}
 {p2col:{cmd:r(verdicts)}}a matrix with a row for each group{p_end}
 
-{pstd}With {opt by()}, the columns of {cmd:r(verdicts)} are observations, goods, garp, efficiency_floor, attained, homothetic, quasilinear, record and
-column, and pump_floor if requested. Without it they are status, garp, afriat, homothetic, quasilinear, attained and ccei, and what was
-requested. With more than 800 groups there is no matrix and no macro of a group: use {opt generate()} or {opt saving()}.
+{pstd}With {opt by()}, the columns of {cmd:r(verdicts)} are {cmd:observations}, {cmd:goods}, {cmd:garp}, {cmd:efficiency_floor}, {cmd:attained}, {cmd:homothetic},
+{cmd:quasilinear}, {cmd:record} and {cmd:column}, and {cmd:pump_floor} if requested. Without it they are {cmd:status}, {cmd:garp},
+{cmd:afriat}, {cmd:homothetic}, {cmd:quasilinear}, {cmd:attained} and {cmd:ccei}, and what was requested. With more than 800 groups there
+is neither a matrix nor a macro of a group: use {opt generate()} or {opt saving()}.
 
 {p2colreset}{...}
 {title:Methods and formulas}

@@ -7,8 +7,8 @@
     >>> bool(revealed.verify(verdict, verdict.certificate))              # plain Python, without the program
     True
 
-The verdicts are the program's, each of which is proved; nothing of this package is. Every number goes to the program as it
-is, and what would have to be rounded is refused.
+The verdicts are those of the proved program; this package itself is tested, not proved. Numbers are used exactly as they are. A number
+that would have to be rounded is rejected, unless you say how to round. Each call has its references in its help.
 """
 
 from . import folders, draws, plain  # noqa: F401

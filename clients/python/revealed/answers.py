@@ -18,10 +18,10 @@ WORDS = {True: "holds", False: "violated", None: "withheld"}
 
 
 class Certificate:
-    """A certificate as the program wrote it: `data` are its bytes, and `items` its items as they stand there.
+    """A certificate. `data` has its bytes, and `items` its items in their order.
 
-    Where it is the wider edition's, `stated` is the certificate that `rp` itself writes, which withholds more; else None. `hint` is
-    what is said of a value that is withheld all the same.
+    If it is the certificate of `rp-wide`, `stated` is the one of `rp`, which leaves more undetermined; otherwise None. `hint` is the
+    program's sentence about a value that is still undetermined.
     """
 
     def __init__(self, data: bytes, stated: bytes | None = None, hint: str = "") -> None:
@@ -75,14 +75,17 @@ class _Reading:
 class Verdict:
     """The verdicts on a table.
 
-    `garp`, `afriat`, `homothetic` and `quasilinear` are True or False, and None where the verdict is withheld: then
-    `reasons` says why. `wide` are the names of those that `rp` itself withholds: the wider edition gives them, with evidence that
-    the checker takes. `efficiency` is the critical cost efficiency index, a Fraction, and `attained` whether the axiom
-    holds at it; `ccei` is the nearest float, but below 1 where the index is. `evidence` has, under
-    the name of each test, what shows it: ranks, numbers and cycles by the labels of the rows. `ranks`, `cycle`, `utility` and
-    `multipliers` are those of the axiom and of Afriat's numbers, or None. Where the table has levels, the axiom and Afriat's
-    numbers are by these, and the rest by costs alone. Where the table's prices are intercepts exchanged, `quasilinear` is None,
-    since it adds money of different rows. `proved` says that the verdicts are the program's.
+    `garp`, `afriat`, `homothetic` and `quasilinear` are True or False; None if undetermined, and `reasons` says why. `wide` names the
+    verdicts that `rp` leaves undetermined and `rp-wide` found, with evidence that the checker accepts.
+
+    `efficiency` is the CCEI as a Fraction. `ccei` is the nearest float, and is 1 only if the CCEI is 1. `attained` says whether GARP holds
+    at the CCEI itself.
+
+    `evidence` has the evidence of each test: ranks, numbers and cycles by the labels of the rows. `ranks` and `cycle` are those of GARP,
+    `utility` and `multipliers` the Afriat numbers; each may be None.
+
+    If the table has levels, GARP and the Afriat numbers use them, and the other verdicts do not. If prices are exchanged intercepts,
+    `quasilinear` is None, because it adds money of different rows. `proved` says that the verdicts are the program's.
     """
 
     proved = True
@@ -262,7 +265,7 @@ def utility_scale(table: Table) -> int:
 
 
 class Answers(list):
-    """A list of answers, with the table they are on, the verdict on the axiom, and the certificate (None for `utility`)."""
+    """A list of results, with their table, the verdict on GARP, and the certificate (None for `utility`)."""
 
     labels: list[Any]
     reasons: dict[Any, str]
@@ -277,14 +280,17 @@ class Answers(list):
         self.proved = True
 
     def records(self) -> list[dict[str, Any]]:
-        """Returns a dictionary for each bound of demand or welfare. `lower` and `upper` are floats to calculate with, rounded down and up,
-        and None where a bound is withheld or there is none; `lower_exact` and `upper_exact` are the Fractions."""
+        """Returns a dictionary for each bound of demand or welfare.
+
+        `lower` and `upper` are floats, rounded down and up; None if the bound is undetermined or does not exist. `lower_exact` and
+        `upper_exact` are the Fractions.
+        """
         if not all(hasattr(it, "records") for it in self):
             raise BadData("bounds of demand and of welfare have records; utilities are numbers already")
         return [record for it in self for record in it.records()]
 
     def frame(self) -> Any:
-        """Returns the records as a frame of pandas, which has to be there; exact numbers are texts there."""
+        """Returns the bounds as a pandas frame; exact numbers are texts. It needs pandas."""
         try:
             import pandas
         except ImportError as wrong:
@@ -305,12 +311,14 @@ def bounds_record(lower: Fraction | None, upper: Fraction | None) -> dict[str, A
 
 
 class Demand:
-    """Demand on a new budget. `garp` is whether the axiom holds; where it fails, no bundle keeps it and all below is None.
+    """Demand at a new budget. `garp` says whether GARP holds. If it is violated, no demand is consistent, and the rest is None.
 
-    `bounds` has for each good the infimum and the supremum over all bundles on the budget with which the table still meets
-    the axiom, as Fractions; one that is withheld is None, and `reasons` says why under (good, "lower") or (good, "upper").
-    `wide` are the bounds that `rp` itself withholds, in the same form. `inner` is one such bundle, and `below` and `strict` are the
-    labels of the rows that the budget is preferred to.
+    `bounds` has for each good the infimum and the supremum over all consistent demands, as Fractions. A demand on the budget is consistent
+    if GARP still holds when it is added to the table. An undetermined bound is None, and `reasons` says why under (good, "lower") or
+    (good, "upper"). `wide` has the bounds that `rp` itself leaves undetermined, in the same form.
+
+    `inner` is one consistent demand. `below` and `strict` are the labels of the rows that the budget is revealed preferred to, and strictly
+    revealed preferred to.
     """
 
     def __init__(
@@ -348,11 +356,11 @@ class Demand:
 
 
 class Welfare:
-    """What it costs at new prices to be as well off as at each row: `lower`, `upper` and `at` by the labels of the rows.
+    """Bounds on the money metric at new prices: `lower`, `upper` and `at`, by the labels of the rows.
 
-    It is at least `lower` and at most `upper`, which the bundle of the row `at` costs. A lower bound that is withheld is
-    None, and `reasons` says why; `wide` are the rows whose lower bound `rp` itself withholds. Where the axiom fails, `garp` is False
-    and the rest is None.
+    A bundle as good as the row's own costs at least `lower` and at most `upper`, the cost of the bundle of the row `at`. An undetermined
+    lower bound is None, and `reasons` says why. `wide` has the rows whose lower bound `rp` itself leaves undetermined. If GARP is violated,
+    `garp` is False and the rest is None.
     """
 
     def __init__(
@@ -504,11 +512,13 @@ class Part:
 
 
 class Patch:
-    """A patch: its number and that of its budget, both from 1, and a share of the choices on that budget: of all of them, the share
-    that falls there; of a mixture, what its types make there.
+    """A patch: its number and the number of its budget, both from 1, with a share.
 
-    Where the patches themselves were asked for, `units` are so many of the budget's, and `sides` tells of each budget, by its label,
-    whether what is chosen in the patch costs less there than the income (`below`), just that (`on`), or more (`above`).
+    In a list of all patches, the share is the part of the budget's choices in the patch. In a mixture, it is the part that the types choose
+    there.
+
+    Results of `patches` also have `units`, the number of the budget's units in the patch, and `sides`. `sides` has an entry for each budget, by
+    its label. A choice in the patch costs less than the income there (`below`), exactly the income (`on`), or more (`above`).
     """
 
     def __init__(self, number: int, budget: int, share: Fraction, units: int | None = None, sides: dict[Any, str] | None = None) -> None:
@@ -547,14 +557,16 @@ def patches_of(choices: Choices, report: str) -> list[Patch]:
 
 
 class RandomVerdict:
-    """Whether a population in which each has a preference makes the choices.
+    """Whether a population of utility maximizers could have made the choices.
 
-    `rational` is True, False, or None where the verdict is withheld: then `reason` says why. `share` is the greatest share
-    of the choices that rational types make, a Fraction, 1 where `rational` is True. `parts` are the types that make it.
-    `weights` are, where `rational` is False, the weight of each patch that shows that no more is possible: each rational
-    type weighs 1 or more. `patches` are those that these types have; `revealed.patches` tells the sides of all. `wide` is whether
-    `rp` itself refuses these choices, since they have more patches or types than it lists. `choices` and `certificate` are what
-    `verify` and `check` take.
+    `rational` is True or False; None if undetermined, and `reason` says why. `share` is the maximum share of the choices that such a
+    population could have made, a Fraction. `parts` are the types that make this share.
+
+    If `rational` is False, `weights` has the weight of each patch, by which each rational type weighs 1 or more. They show that a higher
+    share is impossible. `patches` are the patches of these types; `revealed.patches` has the sides of all.
+
+    `wide` says whether `rp` itself rejects these choices, because they have more patches or types than it lists. `choices` and
+    `certificate` are for `verify` and `check`.
     """
 
     def __init__(self, choices: Choices, certificate: Certificate, wide: bool = False) -> None:
@@ -581,7 +593,7 @@ class RandomVerdict:
 
     @property
     def patches(self) -> list[Patch] | None:
-        """The patches that the types of `parts` have, in their order; None where the verdict is withheld."""
+        """The patches of the types in `parts`, in their order; None if the verdict is undetermined."""
         if self.parts is None:
             return None
         found: dict[tuple[int, int], Fraction] = {}
@@ -598,9 +610,12 @@ class RandomVerdict:
 
 
 class Checked:
-    """What the program's checker says. It is true where it accepts and some item of the certificate proves its verdict: one
-    without items, or that withholds all, proves nothing. Where it rejects, `item`, `reason` and `place` say what fails first.
-    `wide` is whether `rp` itself refuses the data; the reason may be `Steps` then: there are more types to look through than steps."""
+    """The result of the program's checker. It is true if the certificate is accepted and some item proves its verdict.
+
+    A certificate without items, or with undetermined values alone, proves nothing. If the certificate is rejected, `item`, `reason` and
+    `place` say what fails first. `wide` says whether `rp` itself rejects the data. The reason `Steps` means that there are more types than
+    steps.
+    """
 
     def __init__(self, line: str, certificate: bytes, wide: bool = False) -> None:
         self.line = line.strip()

@@ -30,11 +30,13 @@ VIOLATED, WITHHELD = "violated", "withheld"
 
 
 class UnitBounds:
-    """The bounds of a unit: its `key`, whether its data satisfy GARP (`garp`), and `bounds`, which has under the row of new prices and the
-    good, or the observation, the lower and the upper bound as Fractions. A bound that is None is undetermined (`rp-wide` found none).
+    """The bounds of a unit. `key` is its id, and `garp` says whether its data satisfy GARP.
 
-    `fault` is None, or why there are no bounds, with the `record`, from 1, and the `column` of the frame; `refusal` is the same as an
-    exception, and `message` in words.
+    `bounds` has the lower and the upper bound as Fractions, by the row of new prices and the good or the observation. A bound of None is
+    undetermined: `rp-wide` did not find it.
+
+    `fault` is None, or the error, with the `record`, from 1, and the `column` of the frame. `refusal` is the error as an exception, and
+    `message` the error in words.
     """
 
     def __init__(self, key: Any, fault: str | None = None, refusal: Callable[[], Exception] | None = None) -> None:
@@ -50,12 +52,12 @@ class UnitBounds:
 
     @property
     def refusal(self) -> Exception | None:
-        """Why there are no bounds, as an exception."""
+        """The error as an exception, or None."""
         return None if self._refusal is None else self._refusal()
 
     @property
     def message(self) -> str:
-        """Why there are no bounds, in words."""
+        """Why bounds are missing, in words."""
         return str(self.refusal) if self.fault is not None else "" if self.garp else "the axiom fails"
 
     def __repr__(self) -> str:
@@ -78,9 +80,12 @@ class BoundsPanel(Units):
         return BoundsPanel(self.by, found, self.units, self.question) if isinstance(at, slice) else found
 
     def records(self) -> list[dict[str, Any]]:
-        """Returns a dictionary for each bound: the key; the row of new prices (`budget` or `prices`) and the `good` or the `observation`;
-        `garp`; `lower` and `upper` as floats, rounded down and up; `lower_exact` and `upper_exact`, the Fractions; `reason`, why there is
-        none. A unit with an error, or whose data violate GARP, has one dictionary."""
+        """Returns a dictionary for each bound.
+
+        It has the key; the row of new prices (`budget` or `prices`); the `good` or the `observation`; and `garp`. `lower` and `upper` are
+        floats, rounded down and up, and `lower_exact` and `upper_exact` are Fractions. `reason` says why a bound is missing. A unit with an
+        error, or whose data violate GARP, has one dictionary.
+        """
         found = []
         for own in self:
             cells = own.bounds or {(None, None): (None, None)}
@@ -91,12 +96,12 @@ class BoundsPanel(Units):
         return found
 
     def names(self) -> list[str]:
-        """Returns the names of what a record has."""
+        """Returns the names of the columns."""
         own = [AT[self.question], OF[self.question], "garp", "lower", "upper", "lower_exact", "upper_exact", "reason", "fault"]
         return [*self.by, *own]
 
     def frame(self) -> Any:
-        """Returns the records as a frame of pandas, which has to be there; exact numbers are texts there."""
+        """Returns the bounds as a pandas frame; exact numbers are texts. It needs pandas."""
         pandas = self.pandas()
         found = self.records()
         told = lambda it: exact.written(it) if isinstance(it, Fraction) else it
@@ -104,7 +109,7 @@ class BoundsPanel(Units):
         return made.astype({"lower": "float64", "upper": "float64", "garp": "boolean"})
 
     def csv(self) -> bytes:
-        """Returns the records as a CSV file."""
+        """Returns the bounds as a CSV file."""
         told = lambda it: "" if it is None else exact.written(it) if isinstance(it, Fraction) else str(it)
         lines = [line_of(self.names()), *(line_of([told(it) for it in row.values()]) for row in self.records())]
         return "".join(lines).encode("utf-8", "surrogateescape")
@@ -120,21 +125,25 @@ class BoundsPanel(Units):
 
 @takes_places
 def panel_demand(d: Any, by: Any, new: Any, m: Any = None, workers: Any = None, **more: Any) -> BoundsPanel:
-    """Returns the bounds on demand of each unit of a frame on new budgets, as a BoundsPanel.
+    """Computes bounds on demand at new budgets for each unit of a long frame. Returns a BoundsPanel.
 
-    `new` are prices, a row or a frame, and `m` what is spent, one number or one for each row, as in `demand`; they are the same for each
-    unit. `by` and the other arguments are those of `panel`: `decimals`, `numbers`, `units`, `wide`, `exe`, `progress`. Definition and
-    reference: Varian (1982), The Nonparametric Approach to Demand Analysis, Econometrica 50, 945-973.
+    `new` has the new prices, a row or a frame, and `m` the new expenditure, as in `demand`. They are the same for each unit. `by` and the
+    other arguments are those of `panel`: `decimals`, `numbers`, `units`, `wide`, `exe`, `progress`.
+
+    References:
+        Varian, H. R. (1982). The Nonparametric Approach to Demand Analysis. Econometrica 50, 945-973.
     """
     return _bounds("demand", d, by, new, m, workers, **more)
 
 
 @takes_places
 def panel_welfare(d: Any, by: Any, new: Any, workers: Any = None, **more: Any) -> BoundsPanel:
-    """Returns the bounds on the money metric of each observation of each unit at new prices, as a BoundsPanel.
+    """Computes bounds on the money metric at new prices for each observation of each unit. Returns a BoundsPanel.
 
-    `new` are prices, a row or a frame, as in `welfare`; they are the same for each unit. The other arguments are those of `panel`.
-    Reference: Varian (1982), The Nonparametric Approach to Demand Analysis, Econometrica 50, 945-973.
+    `new` has the new prices, a row or a frame, as in `welfare`. They are the same for each unit. The other arguments are those of `panel`.
+
+    References:
+        Varian, H. R. (1982). The Nonparametric Approach to Demand Analysis. Econometrica 50, 945-973.
     """
     return _bounds("welfare", d, by, new, None, workers, **more)
 

@@ -32,12 +32,12 @@ def records_of(frame: Any, by: Any, more: dict[str, Any]) -> Any:
 
 
 def panel_task(by: Any, *, order: Any = None, key: str = "string", **more: Any) -> Callable[[Any], Any]:
-    """Returns a function that answers a frame of whole units with the frame of their records, for `applyInPandas` of Spark.
+    """Returns a function for `applyInPandas` of Spark, which tests the units of a frame and returns the frame of their rows.
 
     `task = panel_task("household", order="obs", pump=True)`, and then `d.groupBy("household").applyInPandas(task, task.schema)`.
-    The groups of Spark have no order of their own: `order` names the column (or columns) by which the rows of a unit are
-    sorted. `key` is the type of the column `by` in Spark's words; the rest are the words of `panel`. Whatever is missing in the
-    frame is None or NaN, and its columns are plain ones.
+    The groups of Spark have no order: `order` names the column (or columns) by which the rows of a unit are sorted. `key` is the type of
+    the column `by` in Spark's words. The other arguments are those of `panel`. Missing values are None or NaN, and columns have plain
+    types.
     """
     if order is None:
         raise BadData("order: the column by which the rows of a unit are sorted, since groups have no order of their own")

@@ -24,13 +24,28 @@ Explains = Callable[[Union[str, None], str, "dict[str, int]"], Exception]
 
 @takes_places
 def analyse(p: Any, q: Any = None, *, levels: Any = None, decimals: Any = None, numbers: Any = "shortest", exe: Any = None, wide: bool = True) -> Verdict:
-    """Returns the Verdict on prices p and quantities q: two lists of rows, two arrays, or two frames; or on a table alone.
+    """Tests a table: GARP, Afriat's inequalities, HARP and quasilinear utility, with the CCEI. Returns a Verdict.
 
-    `levels` gives each row its level, a share of what was spent such as 0.95 or whole thousandths of it such as 950, where the frame has no column `e`. A float
-    is taken as the shortest decimal that gives it back, which is the one that it was read from; one that needs more than 6 decimal
-    places or 7 digits is refused, and `decimals` rounds each number to so many decimal places, half to even; two numbers are those of
-    prices and of quantities. `numbers="exact"` takes a float as the binary fraction that it is. What the program withholds its wider edition is asked for; `wide=False` asks the program
-    alone.
+    `p` and `q` are prices and quantities: two lists of rows, two arrays, or two frames. Or give one table or frame alone, as `p`.
+
+    `levels` has the efficiency level of each row: the share of its expenditure that counts (Varian 1990). A level is a share such as
+    0.95, or integer thousandths such as 950. A frame may have levels in its column `e`.
+
+    A float is read as the shortest decimal that gives it back. A float that needs more than 6 decimal places or 7 digits is rejected.
+    `decimals` rounds, half to even: one number of decimal places, or two, for prices and for quantities. With `numbers="exact"` a float
+    is the binary fraction itself.
+
+    Results that `rp` leaves undetermined come from `rp-wide`, if it finds them. `wide=False` uses `rp` alone.
+
+    The tests are defined in docs/reference/rp-analyse.md.
+
+    References:
+        Afriat, S. N. (1967). The Construction of Utility Functions from Expenditure Data. International Economic Review 8, 67-77.
+        Afriat, S. N. (1973). On a System of Inequalities in Demand Analysis. International Economic Review 14, 460-472.
+        Brown, D. J. and Calsamiglia, C. (2007). The Nonparametric Approach to Applied Welfare Analysis. Economic Theory 31, 183-188.
+        Varian, H. R. (1982). The Nonparametric Approach to Demand Analysis. Econometrica 50, 945-973.
+        Varian, H. R. (1983). Non-parametric Tests of Consumer Behaviour. Review of Economic Studies 50, 99-110.
+        Varian, H. R. (1990). Goodness-of-Fit in Optimizing Models. Journal of Econometrics 46, 125-140.
     """
     own = table(p, q, decimals=decimals, numbers=numbers, levels=levels)
     return Verdict(own, _certificate(["certify", TABLE], [own], exe, wide))
@@ -38,14 +53,24 @@ def analyse(p: Any, q: Any = None, *, levels: Any = None, decimals: Any = None, 
 
 @takes_places
 def certify(p: Any, q: Any = None, *, levels: Any = None, decimals: Any = None, numbers: Any = "shortest", exe: Any = None, wide: bool = True) -> Certificate:
-    """Returns the Certificate of these verdicts."""
+    """Returns the Certificate of the verdicts of `analyse`: all evidence as JSON.
+
+    References:
+        Afriat, S. N. (1967). The Construction of Utility Functions from Expenditure Data. International Economic Review 8, 67-77.
+        Varian, H. R. (1982). The Nonparametric Approach to Demand Analysis. Econometrica 50, 945-973.
+    """
     return _certificate(["certify", TABLE], [table(p, q, decimals=decimals, numbers=numbers, levels=levels)], exe, wide)
 
 
 @takes_places
 def pairs(p: Any, q: Any = None, *, levels: Any = None, decimals: Any = None, numbers: Any = "shortest", exe: Any = None) -> tuple[Any, Any] | None:
-    """Returns the labels of the first two rows that contradict each other, the one weakly preferred to the other and that strictly
-    to it; None where no two do. It is a quick look: longer cycles are seen by `analyse`."""
+    """Finds the first two rows of which each is revealed preferred to the other, at least once strictly. Returns their labels, or None.
+
+    It is a quick look: `analyse` also finds longer cycles.
+
+    References:
+        Varian, H. R. (1982). The Nonparametric Approach to Demand Analysis. Econometrica 50, 945-973.
+    """
     own = table(p, q, decimals=decimals, numbers=numbers, levels=levels)
     told = program.answer(["pairs", TABLE], {TABLE: own.csv()}, exe, _explains(own))
     with reading(told.encode()):
@@ -58,8 +83,15 @@ def pairs(p: Any, q: Any = None, *, levels: Any = None, decimals: Any = None, nu
 
 @takes_places
 def pump(p: Any, q: Any = None, *, levels: Any = None, decimals: Any = None, numbers: Any = "shortest", exe: Any = None) -> MoneyPump:
-    """Returns the greatest money pump ratio of a table, with a cycle that has it. It is refused on a table with levels, and on
-    one of intercepts exchanged, whose rows have money of their own."""
+    """Computes the maximum money pump index of a table, with a cycle that has it. Returns a MoneyPump.
+
+    A table with levels is rejected. Intercepts of budget lines are rejected too, because each row then has its own unit of money. Echenique, Lee
+    and Shum report the mean over short cycles, and this is the maximum over all cycles.
+
+    References:
+        Echenique, F., Lee, S. and Shum, M. (2011). The Money Pump as a Measure of Revealed Preference Violations. Journal of Political
+        Economy 119, 1201-1223.
+    """
     own = table(p, q, decimals=decimals, numbers=numbers, levels=levels)
     if own.own_money:
         raise BadData(f"the money pump: {OWN_MONEY}")
@@ -70,10 +102,15 @@ def pump(p: Any, q: Any = None, *, levels: Any = None, decimals: Any = None, num
 def power(
     p: Any, q: Any = None, *, seed: Any = 1, draws: Any = 1000, levels: Any = None, decimals: Any = None, numbers: Any = "shortest", exe: Any = None
 ) -> Power:
-    """Returns how many of so many random behaviours on the budgets of a table, 1 to 1,000, violate the axiom.
+    """Draws 1 to 1,000 random behaviours on the budgets of a table, and counts the draws that violate GARP. Returns a Power.
 
-    How they are drawn stands in docs/reference/rp-power.md: nearer to equal division than uniformly on the budget line. It is refused on a
-    table with levels.
+    The draws are those of docs/reference/rp-power.md, which crowd around equal shares. Papers draw uniformly on the budget line: use
+    `Panel.plot` or `draws` beside published numbers. A table with levels is rejected.
+
+    References:
+        Bronars, S. G. (1987). The Power of Nonparametric Tests of Preference Maximization. Econometrica 55, 693-698.
+        O'Neill, M. E. (2014). PCG: A Family of Simple Fast Space-Efficient Statistically Good Algorithms for Random Number Generation.
+        Harvey Mudd College, technical report HMC-CS-2014-0905.
     """
     own = table(p, q, decimals=decimals, numbers=numbers, levels=levels)
     seed, draws = program.whole(seed, "seed", *SEED), program.whole(draws, "draws", *DRAWS)
@@ -82,7 +119,12 @@ def power(
 
 
 def trial(seed: Any, rows: Any, goods: Any, *, exe: Any = None, wide: bool = True) -> Trial:
-    """Returns the verdicts on a table of pseudorandom numbers: 1 to 256 rows of 1 to 16 goods."""
+    """Tests a table of pseudorandom numbers: 1 to 256 rows of 1 to 16 goods. Returns a Trial.
+
+    References:
+        O'Neill, M. E. (2014). PCG: A Family of Simple Fast Space-Efficient Statistically Good Algorithms for Random Number Generation.
+        Harvey Mudd College, technical report HMC-CS-2014-0905.
+    """
     numbers = (("seed", seed, "SEED"), ("rows", rows, "ROWS"), ("goods", goods, "GOODS"))
     words = [program.whole(value, name, *span("trial", word)) for name, value, word in numbers]
     given = program.given(["trial", *map(str, words)], {}, exe, wide=wide)
@@ -105,9 +147,13 @@ def demand(
     exe: Any = None,
     wide: bool = True,
 ) -> Answers:
-    """Returns the Demand on each new budget: prices `new`, a row or a frame, and what is spent `m`, one number or one a row.
+    """Computes bounds on demand at new budgets: the infimum and supremum of each good over all consistent demands. Returns `Answers` of `Demand`.
 
-    A frame of new prices may have the column `m` itself. It is refused on a table with levels.
+    `new` has the new prices, a row or a frame, and `m` the new expenditure, one number or one for each row. A frame of new prices may
+    have it in its column `m`. A table with levels is rejected. The method is in docs/reference/rp-demand.md.
+
+    References:
+        Varian, H. R. (1982). The Nonparametric Approach to Demand Analysis. Econometrica 50, 945-973.
     """
     own = table(p, q, decimals=decimals, numbers=numbers, levels=levels)
     sheet = _new(own, new, "p_", "m", m, forms=forms_of(decimals, numbers))
@@ -118,7 +164,13 @@ def demand(
 def welfare(
     p: Any, q: Any = None, new: Any = None, *, levels: Any = None, decimals: Any = None, numbers: Any = "shortest", exe: Any = None, wide: bool = True
 ) -> Answers:
-    """Returns the Welfare bounds at each row of new prices. It is refused on a table with levels."""
+    """Computes bounds on the money metric: what it costs at new prices to be as well off as at each row. Returns `Answers` of `Welfare`.
+
+    A table with levels is rejected. The method is in docs/reference/rp-welfare.md.
+
+    References:
+        Varian, H. R. (1982). The Nonparametric Approach to Demand Analysis. Econometrica 50, 945-973.
+    """
     own = table(p, q, decimals=decimals, numbers=numbers, levels=levels)
     sheet = _new(own, new, "p_", forms=forms_of(decimals, numbers))
     return welfares(own, sheet, _certificate(["welfare", TABLE, NEW, "--json"], [own, sheet], exe, wide))
@@ -126,7 +178,11 @@ def welfare(
 
 @takes_places
 def utility(p: Any, q: Any = None, bundles: Any = None, *, levels: Any = None, decimals: Any = None, numbers: Any = "shortest", exe: Any = None) -> Answers:
-    """Returns the utility of each bundle under the Verdict's Afriat numbers, in their scale: money where lambda is 1."""
+    """Computes the utility of bundles by Afriat's utility function, in the scale of the Afriat numbers: money where lambda is 1.
+
+    References:
+        Afriat, S. N. (1967). The Construction of Utility Functions from Expenditure Data. International Economic Review 8, 67-77.
+    """
     own = table(p, q, decimals=decimals, numbers=numbers, levels=levels)
     sheet = _new(own, bundles, "q_", forms=forms_of(decimals, numbers))
     return utilities(own, sheet, program.answer(["utility", TABLE, NEW], {TABLE: own.csv(), NEW: sheet.csv()}, exe, _explains(own, sheet)))
@@ -137,11 +193,14 @@ def utility(p: Any, q: Any = None, bundles: Any = None, *, levels: Any = None, d
 
 @takes_places
 def cost(technology: Any, asked: Any = None, *, decimals: Any = None, numbers: Any = "shortest", exe: Any = None, wide: bool = True) -> CostMinimisation:
-    """Returns whether a firm minimises its cost and maximises its profit, and what outputs cost at new prices of the inputs.
+    """Tests whether a firm minimizes cost, and maximizes profit, and bounds what outputs cost at new input prices. Returns a `CostMinimisation`.
 
-    The technology is a frame with `w_NAME` and `x_NAME` for each input, its price and how much of it was used, `y`, the output,
-    and perhaps `p`, its price. What is asked is a frame with `w_NAME` and `y`, or a mapping of these to one number each; without
-    it the verdicts alone are given.
+    `technology` is a frame with `w_NAME`, the price, and `x_NAME`, the amount used, for each input. Its column `y` has the output, and
+    its column `p`, if there is one, the price of the output. `asked` is a frame with `w_NAME` and `y`, or a mapping of these to one
+    number each. Without `asked`, the tests alone are returned.
+
+    References:
+        Varian, H. R. (1984). The Nonparametric Approach to Production Analysis. Econometrica 52, 579-597.
     """
     own = technology if isinstance(technology, Technology) else Technology(technology, decimals, numbers)
     first = dict(zip(own.names, own.rows[0])) if own.rows else {}
@@ -155,14 +214,21 @@ def cost(technology: Any, asked: Any = None, *, decimals: Any = None, numbers: A
 def random(
     budgets: Any, choices: Any, per: Any = None, *, decimals: Any = None, numbers: Any = "shortest", exe: Any = None, wide: bool = True
 ) -> RandomVerdict:
-    """Returns the RandomVerdict on choices from budgets.
+    """Tests random utility: could a population of utility maximizers have made these choices from budgets? Returns a RandomVerdict.
 
-    Budgets are a frame with `p_NAME` for each good and `m`, the income (or `w`), or rows of prices that end with the income. Choices
-    are a frame with `budget`, `q_NAME` and `n`, how many times; without `n` each row is one person's choice; or rows that begin with
-    the budget and end with how many times. A budget is its number, from 1; where the frame of budgets has a column `budget` or `obs`,
-    or an index of its own, it is what stands there. `per` asks for so many units of each. Shares
-    are taken as exact: what a sample leaves to chance is not looked at. Choices with more patches or types than the program lists
-    its wider edition is asked about; `wide=False` asks the program alone.
+    `budgets` is a frame with `p_NAME` for each good and `m`, the income (or `w`). Or it has rows of prices that end with the income.
+
+    `choices` is a frame with `budget`, `q_NAME` and `n`, how many times this was chosen. Without `n` each row is the choice of one person.
+    Or it has rows that begin with the budget and end with `n`. A budget is its number, from 1. If the frame of budgets has a column
+    `budget` or `obs`, or its own index, use the value there.
+
+    `per` rounds the shares of each budget to this number of units. The shares are taken as exact, so False is not a statistical
+    rejection. Choices with too many patches or types for `rp` are tested by `rp-wide`; `wide=False` uses `rp` alone.
+
+    References:
+        Kitamura, Y. and Stoye, J. (2018). Nonparametric Analysis of Random Utility Models. Econometrica 86, 1883-1909.
+        McFadden, D. and Richter, M. K. (1990). Stochastic Rationality and Revealed Stochastic Preference. In J. Chipman, D. McFadden and
+        M. K. Richter (editors), Preferences, Uncertainty, and Optimality. Westview Press.
     """
     own = Choices(budgets, choices, per, forms_of(decimals, numbers))
     out, is_wide = _of_choices(["random", BUDGETS, CHOICES, "--json", *_units(own.per)], own, exe, wide)
@@ -171,8 +237,13 @@ def random(
 
 @takes_places
 def patches(budgets: Any, choices: Any, per: Any = None, *, decimals: Any = None, numbers: Any = "shortest", exe: Any = None, wide: bool = True) -> list[Patch]:
-    """Returns the patches that choices from budgets fall in: of each its budget, its share of that budget's choices, and the side of
-    every budget on which it lies. Budgets, choices, `per` and `wide` are those of `random`, and the patches have its numbers."""
+    """Assigns choices from budgets to patches. Returns a list of Patch: the budget, the share of its choices, and the side of every budget.
+
+    The arguments are those of `random`, and its verdict numbers patches in the same way.
+
+    References:
+        Kitamura, Y. and Stoye, J. (2018). Nonparametric Analysis of Random Utility Models. Econometrica 86, 1883-1909.
+    """
     own = Choices(budgets, choices, per, forms_of(decimals, numbers))
     out, _ = _of_choices(["patches", BUDGETS, CHOICES, *_units(own.per)], own, exe, wide)
     return patches_of(own, out)
@@ -186,10 +257,16 @@ def _of_choices(words: list[str], own: Choices, exe: Any, wide: bool) -> tuple[s
 
 
 def menus(choices: Any, per: Any = None, *, exe: Any = None) -> MenuVerdict:
-    """Returns the MenuVerdict on choices from menus: a frame with `menu`, `choice` and `n`, or rows of these.
+    """Tests whether people with strict preference orders could have made choices from menus. Returns a MenuVerdict.
 
-    A menu is a text of one to six of the letters a to f, each after the one before it; the choice is one of them, and `n` how
-    many times it was made. `per` asks for so many units of each menu.
+    `choices` is a frame with `menu`, `choice` and `n`, or rows of these three. A menu is a text of one to six letters from a to f, in
+    order. The choice is one of its letters, and `n` is how many times it was chosen. `per` rounds the shares of each menu to this number
+    of units.
+
+    References:
+        Block, H. D. and Marschak, J. (1960). Random Orderings and Stochastic Theories of Responses. In Contributions to Probability and
+        Statistics. Stanford University Press.
+        Falmagne, J.-C. (1978). A Representation Theorem for Finite Random Scale Systems. Journal of Mathematical Psychology 18, 52-72.
     """
     own = choices if isinstance(choices, MenuChoices) and per is None else MenuChoices(choices, per)
     out = program.answer(["menus", MENUS, *_units(own.per)], {MENUS: own.csv()}, exe, _explains(own))
@@ -200,12 +277,15 @@ def menus(choices: Any, per: Any = None, *, exe: Any = None) -> MenuVerdict:
 
 
 def check(data: Any, certificate: Any, *, per: Any = None, exe: Any = None, wide: bool = True) -> Checked:
-    """Returns what the program's checker says of a certificate on a table or on choices; of choices that the program refuses what
-    that of its wider edition says, but with `wide=False`.
+    """Checks by the program whether a certificate proves its verdicts on a table or on choices. Returns a Checked.
 
-    The data are a Table, Choices or the Verdict on one; the two sides p and q in a tuple; or the name of a CSV file, its text or
-    its bytes, or in a tuple those of budgets and of choices. The certificate is a Certificate, its JSON as a text, bytes or a
-    value, or the name of its file.
+    `data` is a table, choices, or the verdict on one. Or it has prices and quantities in a tuple, or a CSV file, by its name, text or bytes.
+    For choices, give budgets and choices in a tuple. `certificate` is a Certificate, its JSON as text, bytes or a value, or the name of its
+    file. Choices with too many types for `rp` are checked by `rp-wide`, unless `wide=False`.
+
+    References:
+        Afriat, S. N. (1967). The Construction of Utility Functions from Expenditure Data. International Economic Review 8, 67-77.
+        Varian, H. R. (1982). The Nonparametric Approach to Demand Analysis. Econometrica 50, 945-973.
     """
     files, per, explain = _files(data, per)
     claimed = certificate_bytes(certificate)
@@ -222,11 +302,14 @@ def check(data: Any, certificate: Any, *, per: Any = None, exe: Any = None, wide
 
 
 def verify(data: Any, certificate: Any = None, *, per: Any = None) -> Findings:
-    """Returns the Findings of the second checker, which is plain Python and does not call the program. See `check`.
+    """Checks a certificate by the second checker, which is plain Python and does not call the program. Returns Findings.
 
-    It also looks at the reports of `pump`, `menus` and `cost`, as text, as bytes or as what `pump`, `menus` and
-    `cost` gave; data on a firm are a tuple of the technology and what was asked. An answer alone is looked at on its
-    own data.
+    The arguments are those of `check`. It also checks the results of `pump`, `menus` and `cost`, or their reports as text or bytes. Data
+    on a firm are a tuple of the technology and of the new prices. A result alone is checked on its own data.
+
+    References:
+        Afriat, S. N. (1967). The Construction of Utility Functions from Expenditure Data. International Economic Review 8, 67-77.
+        Varian, H. R. (1982). The Nonparametric Approach to Demand Analysis. Econometrica 50, 945-973.
     """
     files, per, _ = _files(data, per)
     claimed = certificate_bytes(data if certificate is None else certificate)

@@ -12,11 +12,11 @@ class Problem(Exception):
 
 
 class BadData(Problem, ValueError):
-    """The data, or an argument, have not the shape that is asked for; the program was not run."""
+    """The data, or an argument, do not have the right shape. The program was not run."""
 
 
 class WrongColumns(BadData):
-    """A column that is needed is not there: `wanted` are the columns that are asked for, and `found` those that there are."""
+    """A column is missing: `wanted` are the columns that are needed, and `found` the columns of the data."""
 
     def __init__(self, wanted: Sequence[str], found: Sequence[Any], file: str = "table", hint: str | None = None) -> None:
         self.wanted, self.found, self.file = list(wanted), [str(name) for name in found], file
@@ -26,7 +26,7 @@ class WrongColumns(BadData):
 
 
 class Pooled(BadData):
-    """Two rows have one label, as where several units stand in one frame: `label` is the first that comes again."""
+    """Two rows have one label, as if several units were in one frame: `label` is the first repeated one."""
 
     def __init__(self, label: Any, name: str = "obs", why: str | None = None) -> None:
         self.label, self.name = label, name
@@ -46,7 +46,7 @@ class NoFile(Problem, FileNotFoundError):
 
 
 class Failed(Problem, RuntimeError):
-    """The program ended without an answer, and not because of the data; `status` and `said` have its own words."""
+    """The program ended without a result, and not because of the data. `status` is its exit code, and `said` its message."""
 
     def __init__(self, status: int, said: str) -> None:
         super().__init__(f"rp ended with status {status}" + (f": {said}" if said else ""))
@@ -55,7 +55,7 @@ class Failed(Problem, RuntimeError):
 
 
 class Unreadable(Failed):
-    """The program ended as if it had answered, and what it said is no answer: it is not `rp`, or of another version."""
+    """The program's output could not be read. Most likely it is another program than `rp`, or another version."""
 
     def __init__(self, said: str, why: str) -> None:
         RuntimeError.__init__(
@@ -67,13 +67,14 @@ class Unreadable(Failed):
 
 
 class Refused(Problem, ValueError):
-    """The data were refused.
+    """The data have an error.
 
-    `fault` is the program's name for it, and `record` and `column` (from 1) the place in the file that the program was given,
-    which `file` names: a `table`, `new` (prices or bundles), `budgets`, `choices`, `menus`, a `technology`, `asked` (outputs) or
-    a `certificate`. `label` is the row's own label in the data, `name` the column's name and `value` what stands there.
-    `budget`, `menu` and `item` are set where the fault has one. Each is None where the fault has no such place. `hint` says what
-    to do.
+    `fault` is the program's name for it. `record` and `column` (from 1) are the place in the file that the program was given. `file` is the
+    name of this file: a `table`, `new` (prices or bundles), `budgets`, `choices`, `menus`, a `technology`, `asked` (outputs) or a
+    `certificate`.
+
+    `label` is the row's own label in the data, `name` the column's name and `value` the value there. `budget`, `menu` and `item` are set if
+    the error has one. Each is None otherwise. `hint` says what to do.
     """
 
     status = 4
@@ -118,7 +119,7 @@ class Refused(Problem, ValueError):
 
 
 class AllRefused(Refused):
-    """Every unit of a panel was refused for one cause: `count` of them, which are called `units`, of which the places tell the first, `key`."""
+    """All units of a panel have one error: `count` is their number, `units` their name, and `key` the first of them."""
 
     def __init__(self, first: Refused, key: Any, count: int, units: str = "units") -> None:
         self.key, self.count, self.units = key, count, units

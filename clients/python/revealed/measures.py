@@ -14,11 +14,10 @@ from .verifier import reports
 
 
 class MoneyPump:
-    """The greatest money pump ratio of a table: which share of what was spent a cycle of purchases gives away at most.
+    """The maximum money pump index of a table: the maximum share of expenditure that a trader could extract along a cycle.
 
-    `ratio` is a Fraction, 0 just where the axiom holds; `pump` is the same as the nearest float, but above 0
-    where the ratio is. `cycle` is a closed walk that has it, by the labels of the rows, and `values` show that none has more, in
-    money.
+    `ratio` is a Fraction, 0 exactly if GARP holds. `pump` is the nearest float, and is 0 only if `ratio` is 0. `cycle` is a cycle with this
+    index, by the labels of the rows. `values` show that no cycle has more, in money.
     """
 
     def __init__(self, table: Table, report: bytes) -> None:
@@ -47,9 +46,9 @@ class MoneyPump:
 
 
 class Power:
-    """Of `draws` random behaviours on the budgets of a table, drawn by a `seed`, so many violate the axiom: `violations`.
+    """`violations` counts the random behaviours that violate GARP, among `draws` behaviours on the budgets of a table.
 
-    `share` is that part of them, a Fraction, and `power` the same as a float. It is a count without evidence, and no probability.
+    `share` is the share of the draws, a Fraction, and `power` the same as a float. It is a count for one `seed`, without evidence.
     """
 
     def __init__(self, table: Table, report: bytes, seed: int, draws: int) -> None:
@@ -77,8 +76,10 @@ class Power:
 
 
 class Trial:
-    """The verdicts on a table of pseudorandom numbers, without their evidence. A verdict that is withheld is None; `wide` has
-    `homothetic` where `rp` itself withholds it."""
+    """The verdicts on a table of pseudorandom numbers, without evidence.
+
+    An undetermined verdict is None. `wide` has `homothetic` if `rp` itself leaves it undetermined.
+    """
 
     def __init__(self, report: bytes, stated: bytes | None = None) -> None:
         self.report = report
@@ -103,11 +104,10 @@ class Trial:
 
 
 class CostBound:
-    """Bounds on what an output costs at new prices of the inputs, in money.
+    """Bounds on what an output costs at new input prices, in money.
 
-    It costs at most `upper`, what the inputs of the row `at` cost, which made that much; None where no row made so much. It costs
-    at least `lower`; None where that is withheld, and `reason` says why; `wide` is whether `rp` itself withholds it. Where the cost
-    axiom fails, `given` is False and both are None.
+    `upper` is what the inputs of the row `at` cost, which made as much; None if no row made as much. `lower` is None if undetermined, and
+    `reason` says why. `wide` says whether `rp` itself leaves it undetermined. If WACM is violated, `given` is False and both are None.
     """
 
     def __init__(self, label: Any, prices: dict[str, Fraction], output: Fraction) -> None:
@@ -123,11 +123,11 @@ class CostBound:
 
 
 class CostMinimisation:
-    """Whether a firm minimises its cost, and with its output maximises its profit.
+    """Whether a firm minimizes cost, and whether it maximizes profit.
 
-    `cost` is True or False, and `profit` too; None where the output has no price. `cost_pair` and `profit_pair` are the labels
-    of the first two rows that break it: the first would have paid less with the inputs of the second, or had more profit.
-    `bounds` are those on each output that was asked.
+    `cost` and `profit` are True or False. `profit` is None if the output has no price. `cost_pair` and `profit_pair` are the labels of the
+    first two rows that violate the axiom. With the inputs of the second row, the first would have paid less, or made more profit. `bounds`
+    has the bounds on each output.
     """
 
     def __init__(self, technology: Technology, asked: Sheet, report: bytes, is_asked: bool = True, stated: bytes | None = None, hint: str = "") -> None:
@@ -181,13 +181,14 @@ class OrderPart:
 
 
 class MenuVerdict:
-    """Whether a population in which each has a strict order of the letters makes choices from menus.
+    """Whether people with strict preference orders could have made the choices from menus.
 
-    `rational` is True, False, or None where the verdict is withheld: then `reason` says why. `share` is the greatest share of
-    the choices that strict orders make, 1 where `rational` is True, and `parts` are the orders that make it. `weights` are,
-    where `rational` is False, the weight of each cell which shows that no more is possible. `orders` counts the orders that pick
-    a cell from every menu. Where something was chosen from every menu, `least_sum` is the least of the sums that a mixture keeps
-    from falling below 0, as a share of the population, with its `sum_letter` and `sum_menu`.
+    `rational` is True or False; None if undetermined, and `reason` says why. `share` is the maximum share of the choices that such people
+    could have made, and `parts` are the orders that make it. If `rational` is False, `weights` has the weight of each cell, which shows
+    that a higher share is impossible. `orders` counts the orders that pick a cell from every menu.
+
+    If something was chosen from every menu, `least_sum` is the minimum Block-Marschak sum as a share of the population. `sum_letter` and
+    `sum_menu` say where it is.
     """
 
     def __init__(self, choices: MenuChoices, report: bytes) -> None:

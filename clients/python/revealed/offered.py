@@ -15,8 +15,10 @@ from .faults import BadData
 
 
 class Overspent(BadData):
-    """A choice costs more than was offered, by more than rounding: `label` is that of its row, `share` what it costs, as a share of the
-    offered budget, and `count` how many rows have such choices."""
+    """A choice costs more than was offered, by more than rounding.
+
+    `label` is the label of its row, and `share` its cost as a share of the offered budget. `count` is how many rows have such choices.
+    """
 
     def __init__(self, label: Any, texts: Sequence[str], names: Sequence[str], share: Fraction, count: int) -> None:
         self.label, self.share, self.count = label, share, count
@@ -29,8 +31,11 @@ class Overspent(BadData):
 
 
 class Offered(NamedTuple):
-    """What choices spent of the budgets that were offered: of so many `rows`, those called `below` spent less than the whole by more than
-    rounding explains. `least` is the least share, of the row `at`."""
+    """What choices spent of the offered budgets.
+
+    `rows` counts the choices. `below` are those that spent less than was offered, by more than rounding explains. `least` is the minimum
+    share, of the row `at`.
+    """
 
     rows: int
     below: list[Any]

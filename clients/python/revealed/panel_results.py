@@ -48,12 +48,13 @@ def id_text(key: Any) -> str:
 
 
 class Row:
-    """The row of a unit of a panel: its `key`, and under the names of the columns of a panel what the call says of it.
+    """The row of a unit of a panel. `key` is its id.
 
-    `garp`, `homothetic`, `quasilinear` and `attained` are True or False, and None where the verdict is withheld or there is none;
-    `efficiency`, `pump` and `power` are Fractions, and with `_floor` behind their names numbers of six places, rounded down.
-    `fault` is None, or why there are no verdicts, with the `record`, from 1, and the `column` of the frame; `refusal` tells it in
-    words. `verdict` is the Verdict with its certificate, which is asked for when it is looked at.
+    `garp`, `homothetic`, `quasilinear` and `attained` are True or False; None if undetermined or not available. `efficiency`, `pump` and
+    `power` are Fractions. Names that end in `_floor` have six decimal places, rounded down.
+
+    `fault` is None, or the error, with the `record`, from 1, and the `column` of the frame. `refusal` is the error in words. `verdict` is
+    the Verdict with its certificate; it is computed when you use it.
     """
 
     def __init__(self, key: Any, texts: Sequence[str], own: Household, refusal: Callable[[], Exception] | None = None) -> None:
@@ -74,7 +75,7 @@ class Row:
 
     @cached_property
     def refusal(self) -> Exception | None:
-        """Why there are no verdicts, as an exception; it is made when it is looked at."""
+        """The error as an exception, made when you use it; None without an error."""
         return None if self._refusal is None else self._refusal()
 
     @property
@@ -94,7 +95,7 @@ class Row:
 
     @property
     def verdict(self) -> Verdict | None:
-        """The verdicts with their certificate, by a call for this unit alone; None where it has a fault."""
+        """The Verdict with its certificate, by a call for this unit alone; None if the unit has an error."""
         if self._verdict is None and self.fault is None:
             own = self._own.panel
             self._verdict = analyse(self.table, exe=own.exe, wide=own.asked.wide)
@@ -102,19 +103,19 @@ class Row:
 
     @property
     def status(self) -> int:
-        """The program's status: 0 with verdicts, 4 with a fault."""
+        """The exit code of the program: 0 with verdicts, 4 with an error."""
         return 0 if self.fault is None else 4
 
     @property
     def message(self) -> str:
-        """Why there are no verdicts, or none of a test."""
+        """Why verdicts are missing, in words."""
         if self.fault is not None:
             return str(self.refusal)
         why = {"homothetic": "withheld" if self.texts["homothetic"] == "withheld" else "", "quasilinear": OWN_MONEY if self.own_money else ""}
         return "; ".join(f"{name}: {said}" for name, said in why.items() if said)
 
     def count_own(self) -> None:
-        """Counts the record of a fault among the unit's own rows."""
+        """Counts the row of an error among the unit's own rows."""
         if self.record is not None:
             self.record = self._own.places.index(self.record - 1) + 1
             self.texts["record"] = str(self.record)
@@ -189,8 +190,10 @@ class Units(list):
 
 
 class Panel(Units):
-    """The Rows of a panel, in the order in which their keys first come, and behind them the rows of the frame that have no unit. `asked`
-    names what was asked beside the verdicts, and `units` is what the units are called."""
+    """The Rows of a panel, in the order in which their keys first appear. Rows of the frame without a unit come last.
+
+    `asked` names what was computed beside the tests. `units` is what the units are called.
+    """
 
     def __init__(self, by: Sequence[str], rows: Iterable[Row], asked: Sequence[str] = (), units: str | None = None) -> None:
         super().__init__(by, rows, of_words(units, by))
@@ -230,7 +233,7 @@ class Panel(Units):
         return f"<p>{said}</p><table><thead><tr>{heads}</tr></thead><tbody>{''.join(rows)}</tbody></table>{more}"
 
     def names(self) -> list[str]:
-        """Returns the names of what a record has: the columns by which units are told apart, and those of each panel."""
+        """Returns the names of the columns: those that identify the units, and those of each panel."""
         return [*self.by, *COLUMNS[1:]]
 
     def records(self) -> list[dict[str, Any]]:
@@ -238,7 +241,7 @@ class Panel(Units):
         return [dict(zip(self.names(), [*self.keys(row), *row.values()])) for row in self]
 
     def csv(self) -> bytes:
-        """Returns the table as the call writes it, with the columns by which units are told apart in place of `household`."""
+        """Returns the table as a CSV file, as `rp-panel` writes it, with the id columns in place of `household`."""
         lines = [line_of(list(map(str, self.names())))]
         for row in self:
             keys = ["" if exact.is_missing(key) else id_text(key).strip(BLANKS) for key in self.keys(row)]
@@ -246,10 +249,10 @@ class Panel(Units):
         return "".join(lines).encode("utf-8", "surrogateescape")
 
     def frame(self) -> Any:
-        """Returns the records as a frame of pandas, which has to be there; BadData says what to install where it is not.
+        """Returns the rows as a pandas frame. It needs pandas; without it, BadData says what to install.
 
-        Verdicts are of its type `boolean`, in which what is withheld is missing and never False. `ccei`, the nearest float to the index but
-        1 for an index of 1 alone, and what ends in `_floor` are `Float64`; fractions and faults are texts.
+        Verdicts have the type `boolean`, and an undetermined verdict is missing. `ccei` and names that end in `_floor` have the type `Float64`.
+        `ccei` is the nearest float, and is 1 only if the CCEI is 1. Fractions and errors are texts.
         """
         pandas = self.pandas()
         columns = {name: [self.keys(row)[at] for row in self] for at, name in enumerate(self.by)}
@@ -280,9 +283,11 @@ class Panel(Units):
         return pictures.of_panel(self, ax, **more)
 
     def text(self, **more: Any) -> str:
-        """Returns a table of the panel for a paper, as plain text: N, the mean, the standard deviation and the quartiles of the CCEI, and
-        the shares at `thresholds`, as ("0.95", "0.90"). `units="subjects"` says what its units are called. Numbers are the nearest ones of
-        `digits` decimal places, 3 by default, of two the even one; but only 1 reads 1, and only 0 reads 0."""
+        """Returns a table of the panel for a paper, as plain text: N, mean, SD and quartiles of the CCEI, and the shares at `thresholds`.
+
+        `thresholds` are texts such as ("0.95", "0.90"). `units="subjects"` says what the units are called. Numbers are rounded to `digits`
+        decimal places, 3 by default, half to even. Only an index of 1 prints as 1, and only 0 prints as 0.
+        """
         from . import papers
 
         return papers.text(self, **more)

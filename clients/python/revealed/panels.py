@@ -47,20 +47,32 @@ def panel(
     wide: bool = True,
     progress: bool = True,
 ) -> Panel:
-    """Returns the row of each unit (household, subject, region) of a frame, whose column (or columns) `by` tells them apart, as a Panel.
+    """Tests each unit of a long frame, such as a subject or a household. Returns a Panel with a row for each unit.
 
-    Units are told apart by the texts of their keys, without the blanks around them. A row whose key is empty or missing belongs to no
-    unit, and has a row of its own. A unit with an error has it in its row, and the others go on. If all have the same error, it
-    is raised (AllRefused), with what to do. `units` is what the units are called, such as "subjects"; by default the name of the column
-    says it. `decimals` and `numbers` are those of `analyse`; a float that needs more decimal places
-    or digits than are taken refuses the whole panel at once. `pump` adds the maximum money
-    pump index of each, and `power` how many of so many random behaviours, drawn by `seed`, violate GARP. A column `e` has
-    levels, or `levels` gives them, one for each row or one for all; with levels neither is there. `wide=False` runs `rp` alone, and not
-    `rp-wide`. It runs on all processors, or on so many `workers`, and shows a bar where the
-    package `tqdm` is there and `progress` is left on. The rows of a unit need not be next to each other.
+    `by` is the name of the column, or of the columns, that identify the units. The rows of a unit may be anywhere. Blanks around an id are
+    ignored. A row without an id belongs to no unit, and has a row of its own. `units` is what the units are called, such as "subjects"; by
+    default the name of the column decides.
 
-    For a frame of Dask it returns one of Dask, by partitions: the records of `Panel.frame()`, under the place of each unit's
-    first row, so that `.compute().sort_index()` has them in the order of the frame. `exe` is a path on each worker.
+    A unit with an error has the error in its row, and the other units are tested. If all units have the same error, it is raised
+    (AllRefused), with what to do.
+
+    `decimals` and `numbers` are those of `analyse`. A float with too many decimal places or digits stops the whole panel. `levels` gives
+    efficiency levels, one for each row or one for all; a column `e` does the same.
+
+    `pump=True` adds the maximum money pump index. `power` draws this many random behaviours for each unit, by `seed`, and adds the share
+    that violates GARP. With levels neither is available. `wide=False` uses `rp` alone, without `rp-wide`.
+
+    All processors are used, or `workers` of them. If the package `tqdm` is installed, `progress` shows a bar.
+
+    For a frame of Dask the result is a frame of Dask with the rows of `Panel.frame()`. Its index is the position of each unit's first row:
+    `.compute().sort_index()` restores the order of the data. `exe` is a path on each worker.
+
+    References:
+        Afriat, S. N. (1973). On a System of Inequalities in Demand Analysis. International Economic Review 14, 460-472.
+        Bronars, S. G. (1987). The Power of Nonparametric Tests of Preference Maximization. Econometrica 55, 693-698.
+        Echenique, F., Lee, S. and Shum, M. (2011). The Money Pump as a Measure of Revealed Preference Violations. Journal of Political
+        Economy 119, 1201-1223.
+        Varian, H. R. (1982). The Nonparametric Approach to Demand Analysis. Econometrica 50, 945-973.
     """
     names = [by] if not isinstance(by, (list, tuple)) else list(by)
     if power is not None:

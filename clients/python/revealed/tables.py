@@ -159,8 +159,10 @@ OWN_MONEY = "intercepts exchanged give each row money of its own, and this adds 
 
 
 class Table(Sheet):
-    """Prices and quantities by observation, perhaps with levels. It is made by `table(p, q)` or `from_frame(d)`, and unpacks into
-    the two. `own_money` says that the prices are intercepts exchanged: then each row has money of its own."""
+    """Prices and quantities by observation, perhaps with efficiency levels. Make it by `table(p, q)` or `from_frame(d)`.
+
+    It unpacks into prices and quantities. `own_money` says that the prices are exchanged intercepts, so each row has its own unit of money.
+    """
 
     def __init__(
         self,
@@ -252,12 +254,14 @@ class Side:
 
 @takes_places
 def from_frame(d: Any, *, decimals: Any = None, numbers: Any = "shortest", levels: Any = None) -> Table:
-    """Returns the table of a frame with columns `p_NAME` and `q_NAME` for each good, and perhaps `obs` and `e`.
+    """Returns the Table of a frame with columns `p_NAME` and `q_NAME` for each good, and perhaps `obs` and `e`.
 
-    Other columns are left out. Where there is `obs`, it has the labels of the rows; else the frame's index has. `e` has a level
-    for each row, in whole thousandths; the argument `levels` gives these too. A label that comes again is refused, and so is a
-    column of ids: those are a `panel`. Budget lines of two goods may be kept by their intercepts, `i_NAME` in place of
-    `p_NAME`: they are exchanged, which is exact, and each row has money of its own then.
+    Other columns are left out. `obs` has the labels of the rows; without it the frame's index has them. `e` has an efficiency level for
+    each row, in integer thousandths; the argument `levels` does the same. A repeated label is rejected, and so is a column of ids: use
+    `panel` for several units.
+
+    Budget lines of two goods may have their intercepts, in columns `i_NAME` in place of `p_NAME`. The intercepts are exchanged for prices,
+    which is exact. Each row then has its own unit of money.
     """
     forms = forms_of(decimals, numbers)
     if isinstance(d, Table):
@@ -273,10 +277,10 @@ def from_frame(d: Any, *, decimals: Any = None, numbers: Any = "shortest", level
 
 @takes_places
 def table(p: Any, q: Any = None, *, decimals: Any = None, numbers: Any = "shortest", levels: Any = None) -> Table:
-    """Returns the table of prices p and quantities q: nested lists or arrays, a row for each observation, or two frames.
+    """Returns the Table of prices p and quantities q: nested lists or arrays, a row for each observation, or two frames.
 
-    The columns of two frames are matched by name, where `p_` and `q_` in front do not count, and their rows by their
-    labels, which have to be the same in the same order.
+    The columns of two frames are matched by name, without `p_` and `q_` in front. Their rows are matched by labels, which must be the same,
+    in the same order.
     """
     forms = forms_of(decimals, numbers)
     if q is None:
@@ -365,7 +369,7 @@ def _has_rows(data: Any) -> bool:
 
 
 class Choices:
-    """Budgets, the choices from them, and the units that were asked for."""
+    """Budgets, the choices from them, and the number of units that shares are rounded to."""
 
     def __init__(self, budgets: Any, choices: Any, per: int | None, forms: Forms = DEFAULT) -> None:
         prices, quantities = forms
@@ -445,7 +449,7 @@ def _sheet(file: str, data: Any, prefix: str, others: list[str], kinds: dict[str
 
 
 class MenuChoices(Sheet):
-    """Choices from menus, and the units that were asked for: a frame with `menu`, `choice` and `n`, or rows of these three."""
+    """Choices from menus, a frame with `menu`, `choice` and `n` or rows of these, and the number of units that shares are rounded to."""
 
     def __init__(self, data: Any, per: int | None) -> None:
         self.per = None if per is None else program.whole(per, "per", *PER)
@@ -468,8 +472,10 @@ class MenuChoices(Sheet):
 
 
 class Technology(Sheet):
-    """What a firm was seen to do: for each input its price `w_NAME` and how much of it was used, `x_NAME`; the output `y`, and its
-    price `p` where this is known."""
+    """Observed production: for each input its price `w_NAME` and the amount used, `x_NAME`; and the output `y`.
+
+    The price of the output, `p`, may be missing.
+    """
 
     def __init__(self, data: Any, decimals: Any = None, numbers: Any = "shortest") -> None:
         frame = Frame(data, "technology")
@@ -493,7 +499,7 @@ class Technology(Sheet):
         return self.power([place for place, kind in enumerate(self.kinds) if kind == QUANTITIES])
 
     def asked(self, data: Any, decimals: Any = None, numbers: Any = "shortest") -> Sheet:
-        """Returns the outputs that are asked of it at new prices of its inputs."""
+        """Returns the outputs to be costed at new input prices."""
         frame = Frame(one_row(data), "asked")
         names = [*("w_" + name for name in self.inputs), "y"]
         need(frame, names, names, "asked")

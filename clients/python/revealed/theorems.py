@@ -20,12 +20,17 @@ INSTALL = (
 
 
 def theorem(data: Any, certificate: Any = None, *, to: Any = None, exe: Any = None) -> str:
-    """Returns a file of Coq that proves the verdicts on a table, or on choices from budgets; `to` names a file that gets it too.
+    """Returns a file of Coq that proves the verdicts on a table, or on choices from budgets. `to` names a file to write.
 
-    The data are an answer of `analyse`, `demand_bounds`, `welfare_bounds` or `random_utility`, which has its own certificate; or a
-    frame, or prices and quantities in a tuple, which are analysed; or what `check` takes, with a certificate. Coq proves the file,
-    and nothing of this package is trusted for it: `coqc -Q second/theories Second Paper.v`. Compare the text of the table in it with your data. Theorems on
-    rounded shares (`per`) are not written.
+    `data` is a result of `analyse`, `demand_bounds`, `welfare_bounds` or `random_utility`, which has its own certificate. Or it is a frame,
+    or prices and quantities in a tuple, which are analysed first. Or it is what `check` takes, with a certificate.
+
+    Coq checks the file by `coqc -Q second/theories Second Paper.v`, so you need not trust this package. Compare the text of the table in
+    the file with your data. Theorems on rounded shares (`per`) are not written.
+
+    References:
+        The Coq Development Team (2022). The Coq Proof Assistant, version 8.16.
+        Varian, H. R. (1982). The Nonparametric Approach to Demand Analysis. Econometrica 50, 945-973.
     """
     path = find(exe)
     answer = data

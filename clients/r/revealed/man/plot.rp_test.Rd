@@ -1,10 +1,10 @@
 \name{plot.rp_test}
 \alias{plot.rp_test}
 \alias{plot.rp_panel}
-\title{Pictures of a Verdict and of a Panel}
+\title{Pictures of a Table and of a Panel}
 \description{
-Draws the budget lines of a table of two goods, what was chosen on each, and the cycle that violates the axiom; and the distribution of
-the index over the units of a panel, beside that of random behaviour.
+For a table of two goods, draws the budget lines, the choices and a cycle that violates GARP. For a panel, draws the distribution of
+the index over units, beside the distribution of random behaviour.
 }
 \usage{
 \method{plot}{rp_test}(x, labels = NULL, main = NULL, xlab = NULL, ylab = NULL,
@@ -14,23 +14,33 @@ the index over the units of a panel, beside that of random behaviour.
   names = NULL, ...)
 }
 \arguments{
-\item{x}{an answer of \code{\link{rp_test}} on two goods, or of \code{\link{rp_panel}}.}
-\item{labels}{whether all choices have their labels; else up to twelve rows have, and beyond that those of the cycle.}
-\item{main, xlab, ylab}{title and names of the axes.}
+\item{x}{a result of \code{\link{rp_test}} on two goods, or of \code{\link{rp_panel}}.}
+\item{labels}{whether all choices have labels. By default up to twelve rows have labels; in larger tables the rows of the cycle do.}
+\item{main, xlab, ylab}{the title and the names of the axes.}
 \item{legend}{whether there is a legend.}
-\item{random}{another panel of the same kind, such as \code{\link{rp_random_panel}} gives.}
-\item{type}{shares of each in bins of the index, or how many are at or below each value.}
-\item{breaks}{the ends of the bins; a bin has its right end and not its left one, but for the first, which has both. An efficiency index of exactly 1 is in no bin and has a bar of its own.}
-\item{names}{what the legend calls the two; by default what the units are called, and random behaviour. Of the efficiency index it tells beside each which share is at least 0.90, and at least 0.95.}
-\item{...}{for \code{plot.window}.}
+\item{random}{another panel of the same kind, such as a result of \code{\link{rp_random_panel}}.}
+\item{type}{\code{"histogram"}: the share of units in each bin of the index. \code{"cumulative"}: how many units are at or below each
+value.}
+\item{breaks}{the ends of the bins. A bin includes its right end and excludes its left end; the first bin includes both. A CCEI of
+exactly 1 is in no bin, and has a bar of its own.}
+\item{names}{the names of the two panels in the legend. The default is what the units are called, and random behaviour.}
+\item{...}{passed to \code{plot.window}.}
+}
+\details{
+For the CCEI, the legend has the share of units with an index of at least 0.90, and of at least 0.95.
 }
 \value{
-The answer itself, unseen.
+The result \code{x}, invisibly.
+}
+\section{Methods and formulas}{
+Budget lines are drawn through the chosen bundles, by what these cost. The comparison with random behaviour on the same budgets is
+that of Choi, Fisman, Gale and Kariv (2007).
 }
 \references{
-Choi, S., Fisman, R., Gale, D. and Kariv, S. (2007) Consistency and heterogeneity of individual behavior under uncertainty.
+Choi, S., Fisman, R., Gale, D. and Kariv, S. (2007). Consistency and Heterogeneity of Individual Behavior under Uncertainty.
 \emph{American Economic Review} 97, 1921--1938.
 }
+\seealso{\code{\link{rp_test}}, \code{\link{rp_panel}}, \code{\link{rp_panel_table}}}
 \examples{
 if (!is.null(rp_program(must = FALSE))) {
   p <- rbind(c(1, 2), c(2, 1))

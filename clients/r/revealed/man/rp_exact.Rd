@@ -15,9 +15,9 @@
 \alias{Summary.rp_exact}
 \alias{sort.rp_exact}
 \alias{xtfrm.rp_exact}
-\title{Exact Numbers That Come Back}
+\title{Exact Numbers in Results}
 \description{
-Whole numbers and fractions in lowest terms, each as its text. They are never doubles.
+Integers and fractions in lowest terms, stored as texts. They are never doubles.
 }
 \usage{
 \method{as.double}{rp_exact}(x, ...)
@@ -26,17 +26,21 @@ Whole numbers and fractions in lowest terms, each as its text. They are never do
 }
 \arguments{
 \item{x}{exact numbers, such as \code{utility} of an \code{\link{rp_test}}.}
-\item{decreasing}{whether the greatest comes first.}
+\item{decreasing}{whether the maximum comes first.}
 \item{...}{not used.}
 }
-\value{
-\code{as.double} gives doubles near the numbers, and \code{as.character} their texts, which \code{gmp::as.bigq} reads.
-Comparisons, \code{max}, \code{min}, \code{order} and \code{sort} are those of the exact numbers. So are sums and products,
-by the package \pkg{gmp}; where that is not there, they stop with an \code{rp_bad_data}. \code{summary}, \code{mean},
-\code{median}, \code{quantile} and functions such as \code{round} and \code{log} are of the doubles. In data frames the columns
-of indices are doubles, with which every function of R calculates, and the exact numbers stand in columns whose names end in
-\code{_exact}.
+\details{
+Comparisons, \code{max}, \code{min}, \code{order} and \code{sort} use the exact numbers. Sums and products are exact too, by the
+package \pkg{gmp}. Without \pkg{gmp} they stop with an \code{rp_bad_data}. \code{summary}, \code{mean}, \code{median},
+\code{quantile}, and functions such as \code{round} and \code{log}, use doubles.
+
+In data frames the columns of indices are doubles, so every function of R can use them. The exact numbers are in columns whose names
+end in \code{_exact}.
 }
+\value{
+\code{as.double} returns doubles near the numbers. \code{as.character} returns their texts, which \code{gmp::as.bigq} reads.
+}
+\seealso{\code{\link{rp_test}}, \link{revealed-package}}
 \examples{
 if (!is.null(rp_program(must = FALSE))) {
   p <- rbind(c(1, 2), c(2, 1))

@@ -2,9 +2,10 @@
 \alias{rp_panel_table}
 \alias{print.rp_lines}
 \alias{as.character.rp_lines}
-\title{A Table of a Panel, as Text and as LaTeX}
+\title{Table of a Panel for a Paper}
 \description{
-Makes the table that a paper has of a panel: how many meet each test, and the distribution of the index, with its standard deviation; or a row for each unit.
+Makes the table that a paper shows of a panel: how many units pass each test, and the distribution of the index. Or makes a row for
+each unit. The table is text or LaTeX.
 }
 \usage{
 rp_panel_table(panel, random = NULL, what = c("summary", "units"),
@@ -12,27 +13,37 @@ rp_panel_table(panel, random = NULL, what = c("summary", "units"),
   tests = c("garp", "homothetic", "quasilinear"), thresholds = NULL, units = NULL)
 }
 \arguments{
-\item{panel}{what \code{\link{rp_panel}} gave.}
-\item{random}{another of the same kind, such as \code{\link{rp_random_panel}} gives, for a column beside.}
+\item{panel}{a result of \code{\link{rp_panel}}.}
+\item{random}{another panel of the same kind, such as a result of \code{\link{rp_random_panel}}, for a second column.}
 \item{what}{a summary, or a row for each unit.}
 \item{format}{text, or a \code{tabular} of LaTeX that needs no package.}
-\item{digits}{to how many decimal places an index is rounded: to the nearest number, of two the even one, but only 1 reads 1, and only
-0 reads 0. The same rule holds in the Python package.}
-\item{names}{what stands above the columns; by default what the units are called, and Random.}
-\item{units}{what the units are called, such as \code{"subjects"}; by default what \code{rp_panel} calls them.}
-\item{tests}{which tests the table has. Of budget lines by their intercepts the quasilinear test is not told, and a line below the
-table says why.}
-\item{thresholds}{levels from 0 to 1, such as \code{c(0.95, 0.90)}: the table has the share of units whose index is at least each. By
-default 0.99, 0.95 and 0.90.}
+\item{digits}{the number of decimal places of an index. Rounding is to the nearest number, half to even. Only an index of 1 prints as
+1, and only 0 prints as 0.}
+\item{names}{the names of the columns. The default is what the units are called, and Random.}
+\item{units}{what the units are called, such as \code{"subjects"}. By default \code{rp_panel} decides.}
+\item{tests}{which tests the table has. For budget lines by intercepts the quasilinear test is left out, and a line below the table
+says why.}
+\item{thresholds}{levels from 0 to 1, such as \code{c(0.95, 0.90)}. The table has the share of units whose index is at least each
+level. The default is 0.99, 0.95 and 0.90.}
+}
+\details{
+The Python package rounds by the same rule. Characters that are special in LaTeX are escaped.
 }
 \value{
-The lines, which \code{print} writes out and \code{writeLines} writes to a file. Letters that LaTeX reads as more are written out.
+The lines of the table. \code{print} shows them, and \code{writeLines} writes them to a file.
+}
+\section{Methods and formulas}{
+The summary has the number of units, and the mean, standard deviation, median and shares of the index. Thresholds of the CCEI are
+discussed by Varian (1991).
 }
 \references{
 Afriat, S. N. (1973). On a System of Inequalities in Demand Analysis: An Extension of the Classical Method. \emph{International Economic Review} 14, 460--472.
 
 Bronars, S. G. (1987). The Power of Nonparametric Tests of Preference Maximization. \emph{Econometrica} 55, 693--698.
+
+Varian, H. R. (1991). Goodness-of-Fit for Revealed Preference Tests. Working paper, University of Michigan.
 }
+\seealso{\code{\link{rp_panel}}, \code{\link{rp_random_panel}}, \code{\link{plot.rp_panel}}}
 \examples{
 if (!is.null(rp_program(must = FALSE))) {
   long <- data.frame(

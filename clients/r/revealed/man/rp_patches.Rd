@@ -3,10 +3,10 @@
 \alias{rp_choice_patches}
 \alias{print.rp_patches}
 \alias{as.data.frame.rp_patches}
-\title{The Patches that Choices from Budgets Fall in}
+\title{Patches of Choices from Budgets}
 \description{
-Tells of choices from a few budgets in which patches they fall: all bundles of a budget that lie on the same side of every other
-one. These are the patches by which \code{\link{rp_random}} tells its types.
+Assigns the choices from a few budgets to patches. A patch of a budget has all choices that lie on the same side of every other
+budget.
 }
 \usage{
 rp_patches(budgets, choices, per = NULL, decimals = digits, numbers = "shortest",
@@ -17,11 +17,22 @@ rp_choice_patches(budgets, choices, per = NULL, decimals = digits,
 \arguments{
 \item{budgets, choices, per, decimals, numbers, exe, wide, digits}{as for \code{\link{rp_random}}.}
 }
+\details{
+\code{\link{rp_random}} uses these patches for its types. \code{rp_choice_patches} is the same call.
+}
 \value{
-An \code{rp_patches}: \code{patch}, the numbers of the patches from 1, with \code{budget}, the number of the budget of each,
-\code{units}, how many of the budget's \code{total} units are chosen there, as texts, \code{share}, which part of the budget's choices that
-is, exactly, and \code{sides}, a matrix with a column for each budget: whether what is chosen in the patch costs \code{above} the income
-there, just that (\code{on}), or \code{below} it. \code{as.data.frame} has a row for each patch, with its sides as one text.
+An \code{rp_patches}, a list with these elements:
+\item{patch}{the numbers of the patches, from 1.}
+\item{budget}{the number of the budget of each patch.}
+\item{units, total}{how many of the budget's units were chosen in the patch, and how many there are, as texts.}
+\item{share}{the exact share of the budget's choices in the patch.}
+\item{sides}{a matrix with a column for each budget. A choice in the patch costs more than the income there (\code{above}), exactly
+the income (\code{on}), or less (\code{below}).}
+
+\code{as.data.frame} has a row for each patch, with its sides as one text.
+}
+\section{Methods and formulas}{
+Patches are those of Kitamura and Stoye (2018), for the observed choices.
 }
 \references{
 Kitamura, Y. and Stoye, J. (2018). Nonparametric Analysis of Random Utility Models. \emph{Econometrica} 86, 1883--1909.

@@ -2,35 +2,41 @@
 \alias{rp_random_panel}
 \title{Random Behaviour on the Budgets of a Panel}
 \description{
-Draws behaviour at random on the budgets of each unit and gives the answers on it, so that the distribution of an index can stand
-beside that of the units.
+Draws random behaviour on the budgets of each unit, and tests it. The distribution of an index can then be shown beside that of the
+units.
 }
 \usage{
 rp_random_panel(panel, times = NULL, seed = 1, workers = NULL, progress = FALSE,
   exe = NULL)
 }
 \arguments{
-\item{panel}{what \code{\link{rp_panel}} gave, of tests or of money pumps.}
-\item{times}{how many behaviours are drawn for each unit; else as many as make a thousand, or a few more.}
-\item{seed}{a whole number from 0 to 4294967295. The package for Python and the page draw the same behaviours from it. The words are
-those of R's generator \code{"L'Ecuyer-CMRG"}; the generator of the session is left as it was.}
+\item{panel}{a result of \code{\link{rp_panel}} with tests or money pumps.}
+\item{times}{how many behaviours are drawn for each unit. By default about one thousand in all, or a few more.}
+\item{seed}{an integer from 0 to 4294967295. The Python package and the page draw the same behaviours from a seed.}
 \item{workers, progress, exe}{as for \code{\link{rp_panel}}.}
 }
+\details{
+The generator is R's \code{"L'Ecuyer-CMRG"}. The generator of the session does not change. One stream of draws takes all units, and
+then all units again. A unit without a verdict has no draws.
+}
 \value{
-An \code{rp_panel} with the column \code{draw} beside those of the units. In each row a bundle is drawn on the budget line (with
-more goods, on the budget plane), each point as likely as any other (Bronars 1987). One stream of draws takes all units, then
-all again. Its \code{data} has what was drawn, prices and quantities as whole numbers in units of their own, which change neither
-the axiom nor an index. A unit without a verdict has no draws.
+An \code{rp_panel} with the column \code{draw} beside those of the units. Its \code{data} has the drawn prices and quantities, as
+integers in their own units. The units change neither GARP nor an index.
+}
+\section{Methods and formulas}{
+Each row has a bundle on its budget line, or on its budget plane with more goods. Each point of the line is equally likely
+(Bronars 1987).
 }
 \references{
-Bronars, S. (1987) The power of nonparametric tests of preference maximization. \emph{Econometrica} 55, 693--698.
+Bronars, S. G. (1987). The Power of Nonparametric Tests of Preference Maximization. \emph{Econometrica} 55, 693--698.
 
-L'Ecuyer, P. (1999) Good parameters and implementations for combined multiple recursive random number generators. \emph{Operations
-Research} 47, 159--164.
-
-Choi, S., Fisman, R., Gale, D. and Kariv, S. (2007) Consistency and heterogeneity of individual behavior under uncertainty.
+Choi, S., Fisman, R., Gale, D. and Kariv, S. (2007). Consistency and Heterogeneity of Individual Behavior under Uncertainty.
 \emph{American Economic Review} 97, 1921--1938.
+
+L'Ecuyer, P. (1999). Good Parameters and Implementations for Combined Multiple Recursive Random Number Generators. \emph{Operations
+Research} 47, 159--164.
 }
+\seealso{\code{\link{rp_panel}}, \code{\link{plot.rp_panel}}, \code{\link{rp_power}}}
 \examples{
 if (!is.null(rp_program(must = FALSE))) {
   long <- data.frame(

@@ -1,31 +1,33 @@
 \name{rp_theorem}
 \alias{rp_theorem}
-\title{Write the Verdicts as Theorems for Coq}
+\title{Verdicts as Theorems for Coq}
 \description{
-Writes a file of Coq that proves the verdicts on a table, or on choices from budgets. Coq's kernel proves the file or
-refuses it; neither this package nor the program has to be trusted for it.
+Writes a file of Coq that proves the verdicts on a table, or on choices from budgets. Coq's kernel checks the proofs. You need not
+trust this package or the program.
 }
 \usage{
 rp_theorem(data, certificate = NULL, file = NULL, levels = NULL, exe = NULL)
 }
 \arguments{
-\item{data}{an answer of \code{\link{rp_test}}, \code{\link{rp_demand}}, \code{\link{rp_welfare}} or
-\code{\link{rp_random}}, which has its own certificate; a data frame, or a list of prices and quantities, which
-\code{rp_test} analyses; or, with a certificate, data as for \code{\link{rp_check}}.}
-\item{certificate}{an answer, its JSON as a text, or the name of its file.}
-\item{file}{the name of the file to write, such as \code{"Paper.v"}; \code{NULL} writes none.}
-\item{levels}{levels of the observations, as for \code{\link{rp_test}}.}
-\item{exe}{the program \code{rp-second}. Without it, the program that the variable \code{RP_SECOND} names, or the one on
-the path.}
+\item{data}{a result of \code{\link{rp_test}}, \code{\link{rp_demand}}, \code{\link{rp_welfare}} or \code{\link{rp_random}}, which has
+its own certificate. Or a data frame, or a list of prices and quantities, which \code{rp_test} analyses. Or, with a certificate, data
+as for \code{\link{rp_check}}.}
+\item{certificate}{a result, its JSON as a text, or the name of its file.}
+\item{file}{the name of the file to write, such as \code{"Paper.v"}. \code{NULL} writes none.}
+\item{levels}{efficiency levels, as for \code{\link{rp_test}}.}
+\item{exe}{the program \code{rp-second}. By default the variable \code{RP_SECOND} names it, or it is on the path.}
 }
 \details{
 \code{rp-second} is built from the folder \file{second/} of the source. On Debian 12, install the packages \code{coq},
 \code{ocaml-findlib} and \code{libzarith-ocaml-dev}, and run \code{make program} there. Then
-\code{coqc -Q second/theories Second Paper.v} proves the theorems. Compare the text of the table in \file{Paper.v} with
+\code{coqc -Q second/theories Second Paper.v} checks the theorems. Compare the text of the table in \file{Paper.v} with
 your data. Theorems on rounded shares are not written.
 }
 \value{
-The lines of the file, invisibly. A certificate that is rejected is an error, since it has no theorem.
+The lines of the file, invisibly. A certificate that is rejected is an error, because it has no theorem.
+}
+\section{Methods and formulas}{
+The file states each verdict by its definition, such as GARP (Varian 1982), over fractions.
 }
 \references{
 The Coq Development Team (2022). \emph{The Coq Proof Assistant}, version 8.16.

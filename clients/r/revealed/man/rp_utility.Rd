@@ -3,10 +3,9 @@
 \alias{rp_afriat_utility}
 \alias{print.rp_utility}
 \alias{as.data.frame.rp_utility}
-\title{The Utility of Other Bundles under Afriat Numbers}
+\title{Utility of Other Bundles by Afriat Numbers}
 \description{
-Gives the utility of bundles under the Afriat numbers that \code{\link{rp_test}} gives: the least, over the observations, of
-the utility there plus its lambda times what the bundle would have cost beyond what was spent.
+Computes the utility of bundles by Afriat's utility function, from the Afriat numbers of the table.
 }
 \usage{
 rp_utility(p, q = NULL, bundles, decimals = digits, levels = NULL,
@@ -15,17 +14,29 @@ rp_afriat_utility(p, q = NULL, bundles, decimals = digits, levels = NULL,
   numbers = "shortest", exe = NULL, digits = NULL)
 }
 \arguments{
-\item{p, q, decimals, levels, numbers, exe, digits}{as for \code{\link{rp_test}}; bundles are rounded as quantities are.}
-\item{bundles}{a matrix or data frame with a column for each good, or one row of numbers, put to the goods by name where there are names;
-at most 16 rows.}
+\item{p, q, decimals, levels, numbers, exe, digits}{as for \code{\link{rp_test}}. Bundles are rounded as quantities are.}
+\item{bundles}{a matrix or data frame with a column for each good, or one row of numbers; at most 16 rows. Goods are matched by name
+where there are names.}
+}
+\details{
+\code{rp_afriat_utility} is the same call.
 }
 \value{
-An \code{rp_utility}: \code{values}, exact and in units of money where lambda is 1, all \code{NA} where the axiom fails or the
-numbers are withheld, which \code{reason} says; \code{garp}, and \code{cycle}, or \code{utility} and \code{lambda}.
+An \code{rp_utility}, a list with these elements:
+\item{values}{the utilities: exact, in units of money where lambda is 1. All are \code{NA} if GARP is violated or the Afriat numbers are
+undetermined, and \code{reason} says which.}
+\item{garp}{whether GARP holds.}
+\item{utility, lambda}{if GARP holds: the Afriat numbers.}
+\item{cycle}{if GARP is violated: a violating cycle.}
+}
+\section{Methods and formulas}{
+The utility of a bundle x is the minimum over observations s of \eqn{U(s) + \lambda(s) (p(s) x - c(s,s))}. Here \eqn{c(s,s)} is the
+expenditure of s (Afriat 1967).
 }
 \references{
-Afriat, S. (1967) The construction of utility functions from expenditure data. \emph{International Economic Review} 8, 67--77.
+Afriat, S. N. (1967). The Construction of Utility Functions from Expenditure Data. \emph{International Economic Review} 8, 67--77.
 }
+\seealso{\code{\link{rp_test}}, \code{\link{rp_welfare}}}
 \examples{
 if (!is.null(rp_program(must = FALSE))) {
   years <- data.frame(

@@ -4,9 +4,10 @@
 \alias{print.rp_welfare}
 \alias{summary.rp_welfare}
 \alias{as.data.frame.rp_welfare}
-\title{Bounds on What It Costs to Be as Well off}
+\title{Bounds on the Money Metric at New Prices}
 \description{
-Gives for each row of new prices and each observation bounds on what it costs at these prices to be as well off as there.
+Computes, for each row of new prices and each observation, bounds on the money metric. The money metric is the minimum cost, at the new
+prices, of a bundle as good as the observed one.
 }
 \usage{
 rp_welfare(p, q = NULL, new, decimals = digits, numbers = "shortest", exe = NULL,
@@ -18,14 +19,24 @@ rp_welfare_bounds(p, q = NULL, new, decimals = digits, numbers = "shortest",
 \item{p, q, decimals, numbers, exe, wide, digits}{as for \code{\link{rp_test}}.}
 \item{new}{new prices, as for \code{\link{rp_demand}}.}
 }
+\details{
+If GARP is violated, all bounds are \code{NA}. The bounds hold for every consumer who is consistent with the purchases. It is not
+proved that narrower bounds are impossible. \code{rp_welfare_bounds} is the same call.
+}
 \value{
-An \code{rp_welfare}: \code{garp}, and \code{bounds}, a data frame with a row for each row of new prices and each
-observation: \code{lower}, \code{upper}, and \code{at}, the observation whose bundle costs the upper bound. A lower bound that
-is withheld is \code{NA}, and \code{reason} says why; \code{wide} is whether \code{rp} itself withholds it. Where the axiom fails all bounds are \code{NA}.
+An \code{rp_welfare}, a list with these elements:
+\item{garp}{whether GARP holds.}
+\item{bounds}{a data frame with a row for each row of new prices and each observation. It has \code{lower}, \code{upper}, and \code{at},
+the observation whose bundle costs the upper bound. An undetermined lower bound is \code{NA}, and \code{reason} says why. \code{wide} says
+whether \code{rp} itself leaves it undetermined.}
+}
+\section{Methods and formulas}{
+The upper bound is the minimum cost, at the new prices, of the observation's own bundle and of all bundles revealed preferred to it. The lower bound is the value of a linear program (Varian 1982).
 }
 \references{
 Varian, H. R. (1982). The Nonparametric Approach to Demand Analysis. \emph{Econometrica} 50, 945--973.
 }
+\seealso{\code{\link{rp_demand}}, \code{\link{rp_panel_demand}}}
 \examples{
 if (!is.null(rp_program(must = FALSE))) {
   years <- data.frame(
