@@ -7,6 +7,7 @@ elasticity of substitution of their own, and spends between 80 and 120. Quantiti
 import csv
 import os
 import random
+import sys
 
 PRICES = {2021: (2.0, 1.0), 2022: (1.5, 1.5), 2023: (1.0, 2.0), 2024: (1.8, 1.3)}
 
@@ -25,4 +26,6 @@ def main():
 
 
 if __name__ == "__main__":
+    if {"-h", "--help"} & {*sys.argv[1:]}:
+        sys.exit(print(__doc__.strip()))
     main()

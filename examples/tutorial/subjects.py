@@ -10,6 +10,7 @@ import csv
 import math
 import os
 import random
+import sys
 
 
 def down(amount):
@@ -39,4 +40,6 @@ def main():
 
 
 if __name__ == "__main__":
+    if {"-h", "--help"} & {*sys.argv[1:]}:
+        sys.exit(print(__doc__.strip()))
     main()

@@ -2,7 +2,9 @@
 
 from __future__ import annotations
 
+import os
 from collections import Counter
+from csv import writer
 from fractions import Fraction
 from functools import cached_property
 from html import escape
@@ -247,6 +249,22 @@ class Panel(Units):
             keys = ["" if exact.is_missing(key) else id_text(key).strip(BLANKS) for key in self.keys(row)]
             lines.append(line_of([*keys, *(row.texts[name] for name in COLUMNS[1:])]))
         return "".join(lines).encode("utf-8", "surrogateescape")
+
+    def save_certificates(self, folder: Any) -> None:
+        """Writes the table and the certificate of each unit with verdicts to a folder, for the replication archive of a paper.
+
+        The files are `unit_1.csv`, `unit_1.json` and so on; `units.csv` lists the units.
+        """
+        os.makedirs(folder, exist_ok=True)
+        own = [row for row in self if row.fault is None]
+        for number, row in enumerate(own, 1):
+            verdict = row.verdict
+            assert verdict is not None
+            with open(os.path.join(folder, f"unit_{number}.csv"), "wb") as it:
+                it.write(row.table.csv())
+            verdict.certificate.save(os.path.join(folder, f"unit_{number}.json"))
+        with open(os.path.join(folder, "units.csv"), "w", encoding="utf-8", newline="") as it:
+            writer(it, lineterminator="\n").writerows([[*self.by, "file"], *([*self.keys(row), f"unit_{at}"] for at, row in enumerate(own, 1))])
 
     def frame(self) -> Any:
         """Returns the rows as a pandas frame. It needs pandas; without it, BadData says what to install.

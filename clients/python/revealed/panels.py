@@ -46,6 +46,7 @@ def panel(
     exe: Any = None,
     wide: bool = True,
     progress: bool = True,
+    certificates: Any = None,
 ) -> Panel:
     """Tests each unit of a long frame, such as a subject or a household. Returns a Panel with a row for each unit.
 
@@ -64,6 +65,8 @@ def panel(
 
     All processors are used, or `workers` of them. If the package `tqdm` is installed, `progress` shows a bar.
 
+    `certificates` is the name of a folder for the replication archive: see `Panel.save_certificates`.
+
     For a frame of Dask the result is a frame of Dask with the rows of `Panel.frame()`. Its index is the position of each unit's first row:
     `.compute().sort_index()` restores the order of the data. `exe` is a path on each worker.
 
@@ -81,11 +84,15 @@ def panel(
         workers = program.whole(workers, "workers", 1, 1024)
     more = {"levels": levels, "pump": pump, "power": power, "seed": seed, "decimals": decimals, "numbers": numbers, "exe": exe}
     more["wide"] = program.switch(wide, "wide")
+    if clusters.is_dask(d) and certificates is not None:
+        raise BadData("certificates of a frame of Dask are not kept: take rp-panel-long --certificates, or frames of pandas")
     if clusters.is_dask(d):
         of_dask: Panel = clusters.of_dask(d, names, more)
         return of_dask
     found = answers(d, names, workers, progress, units=units, **more)
     stop_where_all_are_refused(found)
+    if certificates is not None:
+        found.save_certificates(certificates)
     return found
 
 

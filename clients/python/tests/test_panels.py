@@ -98,6 +98,20 @@ class Faults(unittest.TestCase):
         self.assertIsInstance(found[:2], revealed.Panel)
         self.assertEqual([row.key for row in found[:2]], ["h0", "h1"])
 
+    def test_certificates_are_kept_when_asked(self):
+        d = frame(["A", "B,c", "B,c", "C"], p_a=[1, 1, 2, 0])
+        with tempfile.TemporaryDirectory() as room:
+            folder = os.path.join(room, "archive", "new")
+            found = panel(d, certificates=folder)
+            self.assertEqual([row.fault for row in found], [None, None, "ZeroPrice"])
+            self.assertEqual(sorted(os.listdir(folder)), ["unit_1.csv", "unit_1.json", "unit_2.csv", "unit_2.json", "units.csv"])
+            self.assertEqual(pathlib.Path(folder, "units.csv").read_text(), 'household,file\nA,unit_1\n"B,c",unit_2\n')
+            for number in (1, 2):
+                table, kept = (os.path.join(folder, f"unit_{number}.{end}") for end in ("csv", "json"))
+                self.assertTrue(revealed.check(table, kept))
+                self.assertTrue(revealed.verify(table, kept))
+            self.assertFalse(revealed.check(os.path.join(folder, "unit_1.csv"), os.path.join(folder, "unit_2.json")))
+
     def test_faults_are_grouped_by_cause(self):
         d = frame([f"h{at}" for at in range(6) for _ in "ab"])
         d["q_a"] = [1, 2, 1, "x", 1, "y", 1, "", 0, 2, 1, 2]

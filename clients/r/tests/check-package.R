@@ -9,6 +9,10 @@
 # a release that is checked, and not one that is built here: the library is inside, and R's check has no program.
 # Ends with 0 where all is as it should be: no error and no warning. The time of the panel is told, and not judged. The
 # vignette is run in any case; its pages are made where LaTeX is there with what they take.
+if (any(commandArgs(TRUE) %in% c("-h", "--help"))) {
+  writeLines("usage: RP_EXEC=PROGRAM [RP_TEST_LIBRARY=LIBRARY] [RP_TEST_PACKAGE=FILE] Rscript check-package.R")
+  quit(status = 0)
+}
 options(warn = 1)
 file <- sub("^--file=", "", grep("^--file=", commandArgs(), value = TRUE)[1])
 file <- gsub("~+~", " ", file, fixed = TRUE)

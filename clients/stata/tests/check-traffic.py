@@ -823,6 +823,8 @@ def main():
 
 
 if __name__ == "__main__":
+    if {"-h", "--help"} & {*sys.argv[1:]}:
+        sys.exit(print(__doc__.strip()))
     if not os.environ.get("RP_EXEC"):
         sys.exit("check-traffic: RP_EXEC has to name the program")
     sys.exit(main())

@@ -2,8 +2,10 @@
 # column of ids, units in blocks, and the rows are those of the call of panels (`long.R`).
 
 rp_panel <- function(data, by = id, ask = c("test", "pump", "power"), decimals = digits, levels = NULL, seed = NULL, draws = 1000, workers = NULL,
-                     numbers = "shortest", progress = interactive(), exe = NULL, wide = TRUE, units = NULL, digits = NULL, id = NULL) {
+                     numbers = "shortest", progress = interactive(), exe = NULL, wide = TRUE, units = NULL, digits = NULL, id = NULL,
+                     certificates = NULL) {
   id <- by
+  if (!is.null(certificates)) folder_for(certificates)
   kind <- chosen(ask, c("test", "pump", "power"), "ask")
   is_drawn <- isTRUE(attr(data, "rp_drawn", exact = TRUE))
   data <- plain_frame(data)
@@ -34,7 +36,9 @@ rp_panel <- function(data, by = id, ask = c("test", "pump", "power"), decimals =
   ))
   # Why units have no verdicts is put into words where it is looked at.
   delayedAssign("refusals", lapply(seq_along(long$rows), refusal), assign.env = own)
-  structure(panel_frame(own), class = c("rp_panel", "data.frame"), panel = own)
+  panel <- structure(panel_frame(own), class = c("rp_panel", "data.frame"), panel = own)
+  if (!is.null(certificates)) keep_certificates(panel, certificates, exe, wide, workers, progress)
+  panel
 }
 
 # Returns what is known of a panel beside its columns.

@@ -13,7 +13,7 @@ Tests each unit of a long data frame, such as a subject or a household, and retu
 rp_panel(data, by = id, ask = c("test", "pump", "power"), decimals = digits,
   levels = NULL, seed = NULL, draws = 1000, workers = NULL, numbers = "shortest",
   progress = interactive(), exe = NULL, wide = TRUE, units = NULL, digits = NULL,
-  id = NULL)
+  id = NULL, certificates = NULL)
 }
 \arguments{
 \item{data}{a data frame with columns \code{p_NAME} and \code{q_NAME} for each good. It may have the columns \code{obs} and \code{e}.
@@ -27,6 +27,8 @@ all units.}
 \item{workers}{how many processes run at once. The default is the number of processors. It is 2 where R's checks require that,
 and 1 on Windows.}
 \item{progress}{whether a progress bar is shown, on standard error.}
+\item{certificates}{the name of a folder for the replication archive. The call then writes the table and the certificate of each unit
+with verdicts, \file{unit_1.csv}, \file{unit_1.json} and so on. The file \file{units.csv} lists the units.}
 }
 \details{
 The program \code{rp-panel} or the library does the tests. The program is the one beside \code{rp}, or the variable
@@ -41,7 +43,7 @@ the call stops with this error (\code{rp_all_refused}).
 \code{quasilinear} is \code{NA}, and money pumps are not available.
 
 A part of the result, such as \code{x[x$garp, ]}, is a plain data frame. \code{as.data.frame(x)} is the whole result as one.
-\code{print} shows a summary, the errors by cause, and the first rows. For the certificate of a unit, call \code{\link{rp_test}} on
+\code{print} shows a summary, the errors by cause, and the first rows. For the evidence of one unit, call \code{\link{rp_test}} on
 its rows.
 }
 \value{

@@ -86,6 +86,16 @@ for (wrong in list(c(1, 0), c(1.1234567, 1))) {
 caught(rp_panel_demand(people, "subject", m = 3, workers = 1), "rp_bad_data")
 caught(rp_panel_welfare(transform(people, p_x = 0), "subject", new = c(1, 1), workers = 1), "rp_all_refused")
 
+# certificates are kept when asked for, of units with verdicts, and each is accepted on the table beside it
+folder <- file.path(tempfile(), "archive")
+kept <- rp_panel(people, by = "subject", workers = 1, certificates = folder)
+listed <- utils::read.csv(file.path(folder, "units.csv"), colClasses = "character")
+stopifnot(identical(listed$subject, as.character(kept$subject[!nzchar(kept$fault)])), nrow(listed) > 1, nrow(listed) < nrow(kept))
+stopifnot(sort(dir(folder)) == sort(c("units.csv", paste0(listed$file, ".csv"), paste0(listed$file, ".json"))))
+for (it in listed$file) stopifnot(rp_check(file.path(folder, paste0(it, ".csv")), file.path(folder, paste0(it, ".json")))$accepted)
+stopifnot(!rp_check(file.path(folder, "unit_1.csv"), file.path(folder, "unit_2.json"))$accepted)
+caught(rp_panel(people, by = "subject", certificates = 7), "rp_bad_data")
+
 # what is no table of these units is no answer
 if (.Platform$OS.type == "unix") {
   fake <- function(lines) {
