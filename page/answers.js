@@ -59,7 +59,7 @@ function garpCard(item, table, levels) {
     verdict,
     "bad",
     listOf(cycleSentences(numbersIn(item.cycle), table)),
-    say("Round this cycle each bundle is at least as good as the next, and once strictly better."),
+    say("Along this cycle each bundle is at least as good as the next, and at least once strictly better."),
   );
 }
 
@@ -93,8 +93,8 @@ function afriatCard(item, table, levels) {
   if (word === "model") {
     const spent = levels ? "beyond the part of what was spent that counts" : "beyond what was spent";
     const how = say(
-      "The utility of a bundle is the least, over the observations, of the number below plus lambda times what the " +
-        `bundle costs there ${spent}, counted ${table.unit}.`,
+      "The utility of a bundle is the minimum, over the observations, of the number below plus lambda times what " +
+        `the bundle costs there ${spent}, counted ${table.unit}.`,
     );
     return card(
       title,
@@ -185,17 +185,17 @@ export function tableAnswers(output, table, certificate, hasOwnMoney = false, st
   if (levels) {
     notes.push(
       say(
-        "The observations are held to levels of their own: the answers on GARP and on Afriat's numbers are by these, " +
-          "the others count all that was spent.",
+        "The table has efficiency levels. GARP and Afriat's numbers use them; the other verdicts count the whole " +
+          "expenditure.",
       ),
     );
   }
   if (hasOwnMoney) {
     notes.push(
       say(
-        "Prices are intercepts exchanged, so each observation has money of its own. The quasilinear test adds money " +
-        "of " +
-          "several observations, and is not told; in the report and the certificate it speaks of these prices alone.",
+        "Prices are exchanged intercepts, so each observation has its own unit of money. The quasilinear test adds " +
+          "money of several observations, so it is left out. In the report and the certificate, its verdict is about " +
+          "the exchanged prices alone.",
       ),
     );
   }

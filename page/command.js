@@ -62,13 +62,13 @@ export function commandForm(client, examples) {
   line.addEventListener("keydown", (event) => event.key === "Enter" && go());
   return [
     say(
-      `The words are those of the program, after its name: ${commands().map((it) => it.usage).join("; ")}. With ` +
-        "rp-wide in front of them its wider edition answers, which seeks what rp withholds, and takes choices with " +
+      `Type a command without the program's name: ${commands().map((it) => it.usage).join("; ")}. With rp-wide in ` +
+        "front, rp-wide runs the command: it finds most results that rp leaves undetermined, and takes choices with " +
         "more patches or types.",
     ),
     make("div", { className: "row" }, labelled("Files:", chooser)),
     list,
-    make("div", { className: "row" }, labelled("rp", line), button("Answer this line", go)),
+    make("div", { className: "row" }, labelled("rp", line), button("Run this command", go)),
     result,
   ];
 }

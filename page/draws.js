@@ -17,7 +17,7 @@ const positive = (value, modulus) => ((value % modulus) + modulus) % modulus;
 /** The words of a seed, from 1 to 4294967087: MRG32k3a, with the start that R's kind "L'Ecuyer-CMRG" has of it. */
 export function words(seed) {
   if (!Number.isInteger(seed) || seed < 0 || seed > MOST_SEED) {
-    throw new Error(`a seed is a whole number from 0 to ${MOST_SEED}`);
+    throw new Error(`a seed is an integer from 0 to ${MOST_SEED}`);
   }
   let from = seed;
   const step = () => (from = (69_069 * from + 1) % 2 ** 32);

@@ -78,7 +78,7 @@ const KINDS = [
       {
         key: "outputs",
         file: "asked",
-        title: "Outputs that are asked",
+        title: "New input prices and outputs",
         note: "w_NAME, and y.",
         examples: ["outputs.csv"],
       },
@@ -116,7 +116,7 @@ function showsOf(own) {
       return await work();
     } catch (error) {
       const isStopped = error instanceof Stopped;
-      tell(isStopped ? "Stopped. What was done by then is shown." : `There is no answer: ${error.message}.`);
+      tell(isStopped ? "Stopped. What was done by then is shown." : `No result: ${error.message}.`);
       return null;
     } finally {
       busy(false);
@@ -142,7 +142,7 @@ function refused(shows, told) {
   const fault = parseFault(told);
   const slot = slots.find((it) => fault && it.sheet && it.file.name === fault.file);
   const place = slot ? placeInWords(placeInFile(fault, slot.sheet.records, slot.mapping)) : "";
-  shows.tell(`Refused: ${told.split("\n")[0]}`);
+  shows.tell(`Error: ${told.split("\n")[0]}`);
   shows.results(
     ...(fault ? [make("p", { className: "fault", textContent: `${fault.fault}${place}. ${fault.means}` })] : []),
   );
@@ -164,12 +164,12 @@ async function answerTable(slot, own) {
   const table = purchasesOf(file.bytes);
   const lines = hasOwnMoney ? offeredSays(table) : null;
   if (lines?.head) {
-    shows.tell(`Refused: ${lines.head}`);
+    shows.tell(`Error: ${lines.head}`);
     shows.results(make("p", { className: "fault", textContent: lines.says }));
     return;
   }
   const certificate = async () => (await client.answer(["certify", file.name], [file])).output;
-  shows.tell(`${file.name}: answered.`);
+  shows.tell(`${file.name}: done.`);
   window.firstAnswer ??= performance.now();
   const says = lines ? [make("p", { textContent: lines.says })] : [];
   shows.results(...says, tableAnswers(given.output, table, certificate, hasOwnMoney, given.stated));
@@ -184,7 +184,7 @@ async function answerPanel(slot, own) {
   if (ragged) {
     const { record, fields, names } = ragged;
     showsOf(own).tell(
-      `Refused: record ${record} has ${fields} fields, and there are ${names} names of columns. Nothing is ` +
+      `Error: record ${record} has ${fields} fields, and there are ${names} names of columns. Nothing is ` +
         "completed, cut or shifted: mend the record, and take the file again.",
     );
     return;
@@ -210,7 +210,7 @@ async function answerPanel(slot, own) {
   const waited = `in ${((performance.now() - began) / 1000).toFixed(1)} s`;
   if (isWhole) {
     const counts = `${households.length} ${called.units} and ${panel.random.length} random behaviours`;
-    shows.tell(`${counts} ${waited}: answered.`);
+    shows.tell(`${counts} ${waited}: done.`);
   }
   panel.show(true);
   if (households.length) shows.questions(...panelQuestions(client, households, shows));
@@ -229,7 +229,7 @@ async function answerOthers(own) {
     return;
   }
   slots.forEach((it) => it.show(null, true));
-  shows.tell("Answered.");
+  shows.tell("Done.");
   shows.results(...given.parts);
 }
 
@@ -249,7 +249,7 @@ function choose(chosen) {
   cleared();
   slots = kind.slots.map((form) => new Slot(form, EXAMPLES, { onChange: cleared, onReady: ready }));
   const units = kind.key === "budgets" || kind.key === "menus"
-    ? [make("div", { className: "row" }, labelled("Units to ask for (none: the least common ones)", per))]
+    ? [make("div", { className: "row" }, labelled("Units to round shares to (empty: no rounding)", per))]
     : [];
   at("slots").replaceChildren(...units, ...slots.map((it) => it.place));
 }
@@ -260,10 +260,10 @@ function choose(chosen) {
 async function takeDropped(files) {
   if (files.length > slots.length) {
     const names = files.map((it) => it.name).join(", ");
-    const places = slots.length === 1 ? "There is a place for one file" : `There are places for ${slots.length} files`;
+    const places = slots.length === 1 ? "Drop one file at a time" : `There are boxes for ${slots.length} files`;
     slots[0].refuse(
-      `${files.length} files were dropped together, and none was taken: ${names}.`,
-      `${places}: drop what belongs there. A certificate is taken below the answers, by Check a certificate.`,
+      `${files.length} files were dropped together, so none was taken: ${names}.`,
+      `${places}: drop each file on its own box. For a certificate, open Check a certificate below the results.`,
     );
     return;
   }

@@ -86,7 +86,7 @@ function panelQuestion(client, households, kind, says, field, { working, progres
     };
     await working(async () => {
       await client.panel([kind, "table.csv", typed.name], households, told, [typed]);
-      if (isCurrent()) tell(`${households.length} ${called.units} at new prices: answered.`);
+      if (isCurrent()) tell(`${households.length} ${called.units} at new prices: done.`);
     });
     const [bounded, refused] = [
       new Set(rows.filter((row) => row[3]).map((row) => row[0])),

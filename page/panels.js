@@ -76,7 +76,7 @@ export class Panel {
     [this.rows, this.columns] = [rows, this.#columnsWith(["power"])];
     this.head.replaceChildren(...this.#heads());
     this.show(true);
-    this.shows.tell(`The power of each unit, by ${power.draws} draws from the seed ${power.seed}: answered.`);
+    this.shows.tell(`The power of each unit, by ${power.draws} draws from the seed ${power.seed}: done.`);
   }
 
   /** The columns of the table, and those of them that are not asked unasked. */
@@ -117,7 +117,7 @@ export class Panel {
     this.draw = button("Draw random behaviour anew", () => this.shows.working(async () => {
       if (![this.behaviours, this.seed].every((it) => it.reportValidity())) return;
       await this.#drawRandom(this.behaviours.value, this.seed.value);
-      this.shows.tell(`${this.random.length} random behaviours from the seed ${this.seed.value}: answered.`);
+      this.shows.tell(`${this.random.length} random behaviours from the seed ${this.seed.value}: done.`);
     }));
     return make(
       "div",
@@ -131,7 +131,7 @@ export class Panel {
   /** How many behaviours the program draws on the budgets of each unit, for the column `power`, and the seed. */
   #powers() {
     const [draws, seed] = [numberField(1000, ...range("power", "N")), numberField(1, ...range("power", "SEED"))];
-    const ask = button("Ask for the power of each unit", () => this.shows.working(async () => {
+    const ask = button("Compute the power of each unit", () => this.shows.working(async () => {
       if (![draws, seed].every((it) => it.reportValidity())) return;
       ask.disabled = true;
       try {
@@ -258,14 +258,14 @@ export class Panel {
     const kept = this.rows.filter((it) => it.garp === "holds");
     const alone = kept.filter((it) => it.observations === "1").length;
     const [worst] = [...refused, ...unnamed];
-    const who = worst?.household ? `${worst.household}: ` : "a record: ";
+    const who = worst?.household ? `${worst.household}: ` : "a row: ";
     const first = worst ? ` The first with an error is ${who}${worst.told}` : "";
-    const nothing = alone ? ` (${alone} of these have one record, which can violate nothing)` : "";
+    const nothing = alone ? ` (${alone} have one row, which cannot violate GARP)` : "";
     const held = this.hasLevels ? ", by their levels" : "";
-    const none = unnamed.length ? ` ${unnamed.length} records have no ${this.name}, and belong to none.` : "";
+    const none = unnamed.length ? ` ${unnamed.length} rows have no ${this.name}, and belong to no unit.` : "";
     const answered = this.rows.length - refused.length - unnamed.length;
     this.summary.textContent =
-      `${answered} of ${this.households.length} ${this.units} answered${this.took}, ` +
+      `${answered} of ${this.households.length} ${this.units} tested${this.took}, ` +
       `${kept.length} of them satisfy GARP${held}${nothing}, ${refused.length} with errors.${none}${first}`;
     if (!isWhole) return;
     const found = this.#shown();

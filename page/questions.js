@@ -53,7 +53,7 @@ function showAnswer(place, answer, before = [], typed = null) {
   if (text && !before.length) text.open = true;
   place.replaceChildren(
     ...refusalOf(answer, typed),
-    ...(told ? [printed(told, "what the program tells")] : []),
+    ...(told ? [printed(told, "what the program says")] : []),
     ...before,
     ...(text ? [text] : []),
   );
@@ -71,7 +71,7 @@ export const verdictOf = ({ head, says }) => make(
 export function question(says, explains, fields, ask) {
   const place = make("div", { attrs: { "aria-live": "polite" } });
   let number = 0;
-  const go = button("Answer", async () => {
+  const go = button("Run", async () => {
     number += 1;
     const own = number;
     const only = { replaceChildren: (...children) => own === number && place.replaceChildren(...children) };
@@ -79,7 +79,7 @@ export function question(says, explains, fields, ask) {
     try {
       await ask(only, () => own === number);
     } catch (error) {
-      only.replaceChildren(make("p", { className: "fault", textContent: `There is no answer: ${error.message}.` }));
+      only.replaceChildren(make("p", { className: "fault", textContent: `No result: ${error.message}.` }));
     }
   });
   const row = make("div", { className: "row" }, ...fields);
@@ -190,9 +190,8 @@ function utilityQuestion(client, file, table) {
       `${table.quantities[0].map((it) => decimal(it, table.quantityPlaces)).join(",")}\n`,
   );
   const explains =
-    "Quantities of each good, a record for each bundle. The utility is in the scale of the numbers, and tells which " +
-    "of " +
-    "two bundles is better.";
+    "Quantities of each good, a row for each bundle. The utility is in the scale of the Afriat numbers: the bundle " +
+    "with more utility is better.";
   const name = nameBeside("bundles", file.name);
   return question("Other bundles: their utility by Afriat's numbers", explains, [
     labelled("Bundles as CSV", field),
@@ -240,7 +239,7 @@ function uniformQuestion(client, file, table, { working, progress, tell }) {
       if (isCurrent()) progress(found.length, Number(draws.value), began, "random behaviours");
     }));
     const fails = found.filter((it) => it.garp === "violated").length;
-    if (isCurrent()) tell(`${found.length} random behaviours: answered.`);
+    if (isCurrent()) tell(`${found.length} random behaviours: done.`);
     place.replaceChildren(
       make("p", { className: "verdict", textContent: `${shareInWords(fails, found.length)} violate the axiom` }),
       sharesTable({ "this table": [own.split(" ")[0]], "random behaviour": found.map((it) => it.efficiency) }),
@@ -326,8 +325,7 @@ export function tableQuestions(client, file, table, shows, hasOwnMoney = false) 
   );
   const pump = question(
     "Money pump: how much money could a cycle cost?",
-    "The greatest part of what is spent round a cycle that somebody could take by buying and selling back " +
-      "(Echenique, Lee and Shum 2011).",
+    "The maximum share of expenditure that a trader could extract along a cycle (Echenique, Lee and Shum 2011).",
     [],
     async (place) => {
       const answer = await client.answer(["pump", file.name], [file]);

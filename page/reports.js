@@ -199,7 +199,7 @@ export function sumSentences(cycle, table) {
 /** What each fault means, and what to do. */
 export function meansOf(fault) {
   if (fault === "TooManyRecords") {
-    const also = "If the rows are those of many units, choose the column that tells them apart.";
+    const also = "If the rows are those of many units, choose the column that identifies them.";
     return `${sentenceOf("fault", fault)} ${also}`;
   }
   return sentenceOf("fault", fault);

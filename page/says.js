@@ -7,13 +7,13 @@ export const isWithheld = (text) => text.startsWith("withheld");
 /** The mark of what `rp` itself withholds, and what it means. */
 export const WIDE = "(wide)";
 export const WIDE_MEANS =
-  `${WIDE} marks what rp itself withholds, because an exact number of its own computation gets too long. The wider ` +
-  "edition, rp-wide, found evidence, which the checker takes; the verdict is as true.";
+  `${WIDE} marks what rp itself leaves undetermined, because an exact number of its computation gets too long. ` +
+  "The program rp-wide found evidence that the checker accepts; the verdict is as true.";
 
 /** What the same mark means of choices that `rp` itself refuses. */
 export const REFUSED_MEANS =
-  `${WIDE} marks what is said of choices that rp itself refuses, since they have more patches or types than it ` +
-  "lists. The wider edition, rp-wide, takes them: a verdict has evidence, which its checker takes, and is as true.";
+  `${WIDE} marks verdicts on choices that rp itself rejects, because they have more patches or types than it lists. ` +
+  "The program rp-wide takes them. Its verdict has evidence that its checker accepts, and is as true.";
 
 /** What is said above a report: by which edition it is; `stated` is there where it is the wider one's. */
 export const reportBy = (stated) => `The report, as ${stated ? "rp-wide" : "the program"} prints it`;

@@ -106,9 +106,9 @@ export function otherThanText(bytes) {
   if (first < 0) return "This file is empty: it has no line of column names. Take the file that has the data.";
   if (bytes[first] === 0x7b || bytes[first] === 0x5b) {
     return new TextDecoder().decode(bytes.subarray(0, 2 ** 24)).includes('"items"')
-      ? "This is a certificate, and no table. Take the table that it is about; below the answers, open Check a " +
-        "certificate, and choose this file there."
-      : "This is JSON, and no table. Save the numbers as CSV, and take that.";
+      ? "This is a certificate, not a table. Take the table that it is about. Then open Check a certificate below " +
+        "the results, and choose this file there."
+      : "This is JSON, not a table. Save the numbers as CSV, and take that.";
   }
   const begins = (...own) => own.every((it, at) => bytes[at] === it);
   if (begins(0x50, 0x4b, 3, 4) || begins(0xd0, 0xcf, 0x11, 0xe0)) {
@@ -157,7 +157,7 @@ export class Sheet {
   findings() {
     const found = [];
     if (this.hasMark) {
-      found.push({ key: "mark", says: "A byte-order mark stands at the beginning. The program skips it." });
+      found.push({ key: "mark", says: "The file begins with a byte-order mark. The program skips it." });
     }
     if (this.coding) {
       found.push(
@@ -237,7 +237,7 @@ export class Sheet {
         {
           key: "dates",
           says:
-            `Dates stand in the column ${this.header[column] ?? column + 1}, the first in record ${row}: ${it}. ` +
+            `The column ${this.header[column] ?? column + 1} has dates, the first in row ${row}: ${it}. ` +
             `${how}`,
         },
       );
@@ -441,9 +441,8 @@ export function lacksOf(mapping, header) {
   const open = mapping.roles.findIndex((it) => it.role === "open");
   if (open >= 0) {
     return (
-      `Each value of the column ${header[open]} stands in one record. If it numbers the records, they are one table: ` +
-      "take " +
-      "it for the label, or leave it out. If it tells units apart, each has one record, which can violate nothing."
+      `Each value of the column ${header[open]} is in one row. If the column numbers the rows, they are one table: ` +
+      "take it for the label, or leave it out. If it identifies units, each has one row, which cannot violate GARP."
     );
   }
   const ids = mapping.roles.filter((it) => it.role === "household");

@@ -292,7 +292,7 @@ export class Slot {
     const lacks = this.sheet.lacks() || (this.mapping && !this.mapping.isIdentity(this.sheet.header)
       ? lacksOf(this.mapping, this.sheet.header)
       : "");
-    const go = button("Answer with this", () => this.#answer(), "first");
+    const go = button("Run with these columns", () => this.#answer(), "first");
     go.disabled = Boolean(lacks);
     return make(
       "div",
@@ -315,7 +315,9 @@ export class Slot {
     return make(
       "div",
       { className: "fault", id: `fault-${this.form.key}`, attrs: { role: "alert" } },
-      make("strong", { textContent: `${fault.file || this.sheet.name} is refused: ${fault.fault ?? "it"}${where}.` }),
+      make("strong", {
+        textContent: `${fault.file || this.sheet.name} has an error: ${fault.fault ?? "unknown"}${where}.`,
+      }),
       make("p", { textContent: fault.means }),
     );
   }

@@ -340,8 +340,8 @@ test("a workbook and a PDF are told to be no text", () => {
   assert.equal(otherThanText(bytesOf("p_a,q_a\n")), "");
   for (const it of ["", "\n", "\r\n \t\n", "\ufeff", "\ufeff\n"]) assert.match(otherThanText(bytesOf(it)), /is empty/);
   const certificate = '{"items":[{"item":"garp","ranks":[0,0]}],"kind":"table","version":1}\n';
-  assert.match(otherThanText(bytesOf(certificate)), /certificate, and no table.*Check a certificate/);
-  assert.match(otherThanText(bytesOf(' {"p_a": [1]}')), /JSON, and no table/);
+  assert.match(otherThanText(bytesOf(certificate)), /certificate, not a table.*Check a certificate/);
+  assert.match(otherThanText(bytesOf(' {"p_a": [1]}')), /JSON, not a table/);
 });
 
 test("records with quotes are read and written back", () => {
@@ -366,7 +366,7 @@ test("a column id that numbers the records is asked about, and not taken for hou
   const numbered = parseRecords("id,p_a,q_a\n1,1,2\n2,3,4\n", ",");
   const mapping = Mapping.suggested(header, numbered);
   assert.deepEqual([mapping.roles[0].role, mapping.household], ["open", -1]);
-  assert.match(lacksOf(mapping, header), /^Each value of the column id stands in one record\./);
+  assert.match(lacksOf(mapping, header), /^Each value of the column id is in one row\./);
   assert.ok(numbersRecords(numbered, 0));
   const twice = parseRecords("id,p_a,q_a\n1,1,2\n1,3,4\n", ",");
   assert.equal(Mapping.suggested(header, twice).household, 0);
@@ -507,7 +507,7 @@ test("the words of a seed and the drawn behaviours are those of the clients", ()
     const [amounts, word] = [amountsOf(table), words(seed)];
     assert.deepEqual(behaviours.map(() => behaviour(amounts, word)), behaviours);
   }
-  for (const seed of [-1, 1.5, 2 ** 32, NaN]) assert.throws(() => words(seed), /a seed is a whole number/);
+  for (const seed of [-1, 1.5, 2 ** 32, NaN]) assert.throws(() => words(seed), /a seed is an integer/);
   const table = new Purchases(parseRecords("p_a,q_a,p_b,q_b\n1.5,2,2,1\n", ","));
   const drawn = ["1", "2"].map((household, at) => ({ household, table, bundles: [[3 + at, 4]] }));
   const text = new TextDecoder().decode(drawnFile(drawn));

@@ -413,7 +413,7 @@ def counted(frame: Frame) -> dict[Any, list[Any]]:
     """Returns a frame of choices with `n`, how many times each was made. Without that column each row is one person's choice, and rows
     that say the same become one, which is called by the first of them."""
     found = dict(frame.columns)
-    if "n" in found:
+    if "n" in found or "budget" not in found:
         return found
     names = [name for name in found if name == "budget" or str(name).startswith("q_")]
     first: dict[Any, list[int]] = {}
