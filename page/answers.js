@@ -77,7 +77,7 @@ function efficiencyCard(item, table, levels) {
     { index: fraction, about: about(fraction) },
   );
   const evidence = [
-    say("Ranks which show that the axiom holds at every level below:"),
+    say("Ranks which show that GARP holds at every level below:"),
     byObservation(table, { rank: item.below }),
   ];
   if (item.above) evidence.push(say(`A cycle which violates it at every level above: ${walkOf(item.above)}.`));

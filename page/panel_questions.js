@@ -55,16 +55,15 @@ export function boundRows(kind, answer, goods, pricePlaces, refusal = (text) => 
       rows.push([household, "0", String(record), of, ...units(bound[2]), ...units(bound[3]), wide, ""]);
     }
   }
-  return rows.length ? rows : none("the axiom is violated, so there are no bounds", 0);
+  return rows.length ? rows : none("GARP is violated, so there are no bounds", 0);
 }
 
 /** A question on every unit at new prices, whose answers are kept as CSV. */
 function panelQuestion(client, households, kind, says, field, { working, progress, tell, place: where, called }) {
   const explains =
     `The same new prices for all ${called.units}. ` +
-    "Bounds are exact, in the units of the file, each with its decimal " +
-    "rounded " +
-    `down beside it; where the axiom fails there are none. ${WIDE_COLUMN}`;
+    "Bounds are exact, in the units of the file, each with its decimal rounded down beside it. A unit that violates " +
+    `GARP has no bounds. ${WIDE_COLUMN}`;
   return question(says, explains, [labelled("New prices as CSV", field)], async (place, isCurrent) => {
     const [rows, began] = [[], performance.now()];
     const typed = { name: "new prices", bytes: bytesOf(field.value) };

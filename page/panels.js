@@ -282,9 +282,8 @@ export class Panel {
     if (!people.length) return;
     const svg = indexPicture(people.map(asNumber), this.random.map(asNumber), this.units);
     const beside = this.random.length
-      ? ` beside ${this.random.length} random behaviours on the same budgets: each takes a bundle of each budget ` +
-        "line, " +
-        "every division of what was spent as likely as another (Bronars 1987)."
+      ? ` beside ${this.random.length} random behaviours on the same budgets. Each takes a point of each budget ` +
+        "line, and every point is equally likely (Bronars 1987)."
       : ".";
     const caption = make(
       "figcaption",

@@ -127,8 +127,8 @@ function demandQuestion(client, file, table) {
   const spent = table.money(table.cost(0, 0));
   const field = area(`${table.goods.map((it) => `p_${it}`).join(",")},m\n${prices.join(",")},${spent}\n`);
   const explains =
-    "Prices of each good and what is spent (m), a record for each budget. The bounds hold over all demands that keep " +
-    "the axiom.";
+    "Prices of each good and the expenditure (m), a row for each budget. The bounds are over all demands with which " +
+    "GARP still holds.";
   const name = nameBeside("new prices", file.name);
   return question("Demand: what could this consumer choose at new prices?", explains, [
     labelled("New prices as CSV", field),
@@ -222,8 +222,8 @@ function uniformQuestion(client, file, table, { working, progress, tell }) {
   const most = limit("command_line.draws");
   const [seed, draws] = [numberField(1, 0, MOST_SEED), numberField(most, 1, most)];
   const explains =
-    "Each random behaviour takes a bundle of each budget line, every division of what was spent as likely as another " +
-    "(Bronars 1987). The same seed draws the same bundles in the packages for Python and R.";
+    "Each random behaviour takes a point of each budget line, and every point is equally likely (Bronars 1987). " +
+    "The same seed draws the same bundles in the packages for Python and R.";
   return question("Power: would random choices have passed the test?", explains, [
     labelled("Seed", seed),
     labelled("Random behaviours", draws),
@@ -241,9 +241,9 @@ function uniformQuestion(client, file, table, { working, progress, tell }) {
     const fails = found.filter((it) => it.garp === "violated").length;
     if (isCurrent()) tell(`${found.length} random behaviours: done.`);
     place.replaceChildren(
-      make("p", { className: "verdict", textContent: `${shareInWords(fails, found.length)} violate the axiom` }),
+      make("p", { className: "verdict", textContent: `${shareInWords(fails, found.length)} violate GARP` }),
       sharesTable({ "this table": [own.split(" ")[0]], "random behaviour": found.map((it) => it.efficiency) }),
-      say("A count for this seed, and no probability."),
+      say("This is a count for one seed, not a probability."),
     );
   });
 }

@@ -20,8 +20,8 @@ export const reportBy = (stated) => `The report, as ${stated ? "rp-wide" : "the 
 
 /** What the column `wide` of a table of many answers means. */
 export const WIDE_COLUMN =
-  "The column wide names what rp itself withholds and its wider edition, rp-wide, gives, with evidence that the " +
-  "checker takes.";
+  "The column wide names the results that rp itself leaves undetermined and rp-wide found, with evidence that the " +
+  "checker accepts.";
 
 /** Whether the homothetic verdict is given where `rp` itself withholds it; `stated` is what that writes, or nothing. */
 export const isWideTest = (output, stated) =>

@@ -338,7 +338,7 @@ export class Slot {
       return make("tr", {}, make("th", { scope: "row", textContent: String(first + row) }), ...cells);
     });
     const more = records.length - 1 > first - 1 + shown.length
-      ? `Records ${first} to ${first - 1 + shown.length} of ${records.length - 1} are shown.`
+      ? `Rows ${first} to ${first - 1 + shown.length} of ${records.length - 1} are shown.`
       : "";
     const table = make(
       "table",

@@ -583,7 +583,7 @@ test("bounds of a household in units with a decimal beside each, and none where 
   const [wide] = boundRows("demand", { household: "u", status: 0, output, told: "", stated }, ["bread"], 0);
   assert.deepEqual(wide, ["u", "0", "1", "bread", "10/3", "3.333333", "withheld", "", "lower", ""]);
   const none = boundRows("demand", { household: "u", status: 0, output: REPORT, told: "" }, ["bread"], 0);
-  assert.equal(none[0].at(-1), "the axiom is violated, so there are no bounds");
+  assert.equal(none[0].at(-1), "GARP is violated, so there are no bounds");
 });
 
 test("what is said of populations and firms", () => {
