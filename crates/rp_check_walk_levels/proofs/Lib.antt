@@ -1,0 +1,2 @@
+pub mod StepSums
+pub mod LevelSound

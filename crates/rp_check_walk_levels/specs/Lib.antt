@@ -1,0 +1,2 @@
+pub mod InnerSums
+pub mod QuasilinearLevelFailure
