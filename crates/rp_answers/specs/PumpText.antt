@@ -2,10 +2,10 @@
 use Rattle.std.specs.Prelude.{◌≡◌, ◌↔◌, ◌<◌, ℕ, List, [], ◌∷◌}
 use Rattle.rp_evidence.specs.Efficiency.{FailsGarp}
 use Rattle.rp_num.specs.Fraction.{IsCoprime}
-use Rattle.rp_pump.specs.MoneyPump.{IsPumpIndex}
-use Rattle.rp_pump.specs.PumpEvidence.{HasLeastPumpTotals, PumpHolds}
+use Rattle.rp_fit.specs.MoneyPump.{IsPumpIndex}
+use Rattle.rp_fit.specs.PumpEvidence.{HasLeastPumpTotals, PumpHolds}
 use Rattle.rp_pump.specs.Report.{pump_report}
-use Rattle.rp_pump.specs.declared.part.PumpPart.{PumpPart}
+use Rattle.rp_fit.specs.declared.pump.PumpPart.{PumpPart}
 use Rattle.rp_table.specs.Cost.{cost_of}
 use Rattle.rp_table.specs.Tables.{Observations, records_of}
 

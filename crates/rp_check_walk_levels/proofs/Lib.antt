@@ -1,2 +1,4 @@
 pub mod StepSums
 pub mod LevelSound
+pub mod PumpSound
+pub mod ManyWordProducts

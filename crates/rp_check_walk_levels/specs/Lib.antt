@@ -1,2 +1,4 @@
 pub mod InnerSums
 pub mod QuasilinearLevelFailure
+pub mod PumpFailure
+pub mod HomotheticLevelFailure

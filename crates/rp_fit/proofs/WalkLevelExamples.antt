@@ -1,4 +1,5 @@
--- The quasilinear and the homothetic level, tried at two observations that contradict each other: four fifths.
+-- The quasilinear and the homothetic level, tried at two observations that contradict each other (four fifths) and at
+-- three that do only together (a half).
 use Rattle.std.proofs.Common.{◌<◌, ◌≤◌, ◌*◌, ℕ, zero, suc, List, [], ◌∷◌, refl, arith, slice_index, slice_index_or}
 use Rattle.std.proofs.lemmas.Int.{ints}
 use Rattle.std.specs.Prelude.{pos, ◌+ℤ◌, ◌≤ℤ◌}
@@ -54,3 +55,55 @@ homothetic_level_at_most = (0 ∷ 1 ∷ 0 ∷ [], there_and_back, omega arith)
 -- a walk that stays where it is once has three steps and a greater mean: the cube of four fifths is below 80 of 125
 longer_walk_has_more : ¬ (5 * (5 * (5 * (5 * (4 * 4)))) ≤ 4 * (4 * (4 * (5 * (5 * 5)))))
 longer_walk_has_more h = absurd (omega (arith, h))
+
+-- ---- three observations that contradict each other only together: of 6 spent the next bundles cost 3, and 1/8 is the
+-- cube of a half
+
+abbrev round_of_three : ℕ → ℕ → ℕ
+round_of_three = costs ((2 ∷ 1 ∷ 3 ∷ []) ∷ (3 ∷ 2 ∷ 1 ∷ []) ∷ (1 ∷ 3 ∷ 2 ∷ []) ∷ [])
+
+all_round : IsClosedWalk 3 AnyStep (0 ∷ 1 ∷ 2 ∷ 0 ∷ [])
+all_round = (0, (refl, (omega arith, tt, (omega arith, tt, (omega arith, tt, (omega arith, refl))))), omega arith)
+
+round_quasilinear_level : IsQuasilinearLevel 3 round_of_three 1 2
+round_quasilinear_level = record {
+  positive = omega arith;
+  reached = (0 ∷ 1 ∷ 2 ∷ 0 ∷ [], all_round, refl);
+  least = costs_part_by_values 3 round_of_three 1 2 (λ s. pos 0) bounds;
+}
+  where
+    bounds : (s t : ℕ) → s < 3 → t < 3 → (pos 0 +ℤ pos (1 * round_of_three s s)) ≤ℤ (pos 0 +ℤ pos (2 * round_of_three s t))
+    bounds zero zero a b = omega (arith, ints)
+    bounds zero (suc zero) a b = omega (arith, ints)
+    bounds zero (suc (suc zero)) a b = omega (arith, ints)
+    bounds (suc zero) zero a b = omega (arith, ints)
+    bounds (suc zero) (suc zero) a b = omega (arith, ints)
+    bounds (suc zero) (suc (suc zero)) a b = omega (arith, ints)
+    bounds (suc (suc zero)) zero a b = omega (arith, ints)
+    bounds (suc (suc zero)) (suc zero) a b = omega (arith, ints)
+    bounds (suc (suc zero)) (suc (suc zero)) a b = omega (arith, ints)
+    bounds zero (suc (suc (suc t))) a b = absurd (omega arith)
+    bounds (suc zero) (suc (suc (suc t))) a b = absurd (omega arith)
+    bounds (suc (suc zero)) (suc (suc (suc t))) a b = absurd (omega arith)
+    bounds (suc (suc (suc s))) t a b = absurd (omega arith)
+
+round_homothetic_level_at_least : HomotheticLevelIsAtLeast 3 round_of_three 1 2
+round_homothetic_level_at_least = level_by_values 3 round_of_three 1 2 (λ s. 1) bounds (λ s l. omega arith)
+  where
+    bounds : (s t : ℕ) → s < 3 → t < 3 → (1 * 1) * round_of_three s s ≤ (1 * round_of_three s t) * 2
+    bounds zero zero a b = omega arith
+    bounds zero (suc zero) a b = omega arith
+    bounds zero (suc (suc zero)) a b = omega arith
+    bounds (suc zero) zero a b = omega arith
+    bounds (suc zero) (suc zero) a b = omega arith
+    bounds (suc zero) (suc (suc zero)) a b = omega arith
+    bounds (suc (suc zero)) zero a b = omega arith
+    bounds (suc (suc zero)) (suc zero) a b = omega arith
+    bounds (suc (suc zero)) (suc (suc zero)) a b = omega arith
+    bounds zero (suc (suc (suc t))) a b = absurd (omega arith)
+    bounds (suc zero) (suc (suc (suc t))) a b = absurd (omega arith)
+    bounds (suc (suc zero)) (suc (suc (suc t))) a b = absurd (omega arith)
+    bounds (suc (suc (suc s))) t a b = absurd (omega arith)
+
+round_homothetic_level_at_most : HomotheticLevelIsAtMost 3 round_of_three 1 2
+round_homothetic_level_at_most = (0 ∷ 1 ∷ 2 ∷ 0 ∷ [], all_round, omega arith)

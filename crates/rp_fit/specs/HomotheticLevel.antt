@@ -3,6 +3,7 @@
 use Rattle.std.specs.Prelude.{◌≤◌, ◌*◌, ◌^◌, ◌-◌, ℕ, List, length}
 use Rattle.rp_evidence.specs.Homothetic.{next_product, spent_product}
 use Rattle.rp_evidence.specs.Walk.{AnyStep, IsClosedWalk}
+use Rattle.rp_fit.specs.declared.homothetic_level.HomotheticLevelPart.{HomotheticLevelPart}
 
 -- How many steps a walk has.
 abbrev pub step_count : List ℕ → ℕ
@@ -19,3 +20,8 @@ HomotheticLevelIsAtLeast n c low den = (walk : List ℕ) → IsClosedWalk n AnyS
 abbrev pub HomotheticLevelIsAtMost : ℕ → (ℕ → ℕ → ℕ) → ℕ → ℕ → Type 0
 HomotheticLevelIsAtMost n c high den = (walk : List ℕ) × IsClosedWalk n AnyStep walk
     × (den ^ step_count walk * next_product c walk ≤ high ^ step_count walk * spent_product c walk)
+
+-- What accepted evidence on the level proves: it is at least the lower bound and at most the upper one, both over 2^40.
+pub record ProvesHomotheticLevel (n : ℕ) (c : ℕ → ℕ → ℕ) (part : HomotheticLevelPart) : Type 0 where
+  pub at_least : HomotheticLevelIsAtLeast n c part.low (2 ^ 40)
+  pub at_most : HomotheticLevelIsAtMost n c part.high (2 ^ 40)

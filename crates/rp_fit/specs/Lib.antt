@@ -12,4 +12,7 @@ pub mod KeptEvidence
 pub mod WeightedWalks
 pub mod StepsEvidence
 pub mod LevelsEvidence
+pub mod MoneyPump
+pub mod PumpTotals
+pub mod PumpEvidence
 pub mod FitItems

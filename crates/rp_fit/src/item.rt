@@ -1,6 +1,8 @@
 //! Items of a certificate on goodness of fit.
+use crate::homothetic_level::HomotheticLevelPart;
 use crate::kept::KeptPart;
 use crate::levels::LevelsPart;
+use crate::pump::PumpPart;
 use crate::quasilinear_level::QuasilinearLevelPart;
 use crate::steps::StepsPart;
 use crate::violations::ViolationsPart;
@@ -14,5 +16,7 @@ pub enum FitItem {
     Kept(KeptPart),
     Levels(LevelsPart),
     Steps(StepsPart),
+    Pump(PumpPart),
     QuasilinearLevel(QuasilinearLevelPart),
+    HomotheticLevel(HomotheticLevelPart),
 }

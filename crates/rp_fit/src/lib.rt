@@ -2,15 +2,18 @@
 //! of evidence.
 #![tactic(auto)]
 
+mod homothetic_level;
 mod item;
 mod kept;
 mod laws;
 mod levels;
+mod pump;
 mod quasilinear_level;
 mod steps;
 mod violations;
 mod weighted;
 
+pub use homothetic_level::HomotheticLevelPart;
 pub use item::FitItem;
 pub use kept::{Group, GroupKind, KeptPart};
 pub use laws::{
@@ -18,6 +21,7 @@ pub use laws::{
     violating_pairs_have_one_number,
 };
 pub use levels::{Lack, LevelsPart};
+pub use pump::PumpPart;
 pub use quasilinear_level::QuasilinearLevelPart;
 pub use steps::StepsPart;
 pub use violations::ViolationsPart;

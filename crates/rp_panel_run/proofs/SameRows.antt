@@ -25,10 +25,10 @@ use Rattle.rp_long.specs.declared.fault.LongFault.{LongFault}
 use Rattle.rp_num.specs.Fraction.{Fraction}
 use Rattle.rp_num.proofs.Lowest.{same_lowest}
 use Rattle.rp_panel.specs.PanelText.{AreRowsOf, IsPanelText, IsRowOfHousehold, unnamed_row}
-use Rattle.rp_pump.specs.MoneyPump.{HasPumpRatio, IsPumpIndex, PumpsAtMost, gain_from, spent_from}
+use Rattle.rp_fit.specs.MoneyPump.{HasPumpRatio, IsPumpIndex, PumpsAtMost, gain_from, spent_from}
 use Rattle.rp_power.specs.PowerCount.{IsPowerCount}
-use Rattle.rp_pump.specs.InnerWalks.{swapped_from}
-use Rattle.rp_pump.proofs.Soundness.{at_most_to, gain_split, ratio_to, some_spent}
+use Rattle.rp_fit.specs.WalkSums.{steps_sum}
+use Rattle.rp_fit.proofs.PumpIndex.{at_most_to, gain_split, ratio_to, some_spent}
 use Rattle.rp_rows.specs.RowText.{rows_text}
 use Rattle.rp_rows.specs.Rows.{IsFound}
 use Rattle.rp_rows.specs.Verdicts.{Answers, AreVerdicts, Decides, IsHomotheticFound, IsPowerFound, IsPumpFound, Tells, given_as_stated}
@@ -141,10 +141,10 @@ pump_most n c a b p q costs one other less = by one.reached.0 one.reached.1 one.
     by : (walk : List ℕ) → IsClosedWalk n (IsWeak c) walk → HasPumpRatio c a b walk → PumpsAtMost c p q walk → ⊥
     by [] closed has most = absurd closed.1
     by (s ∷ rest) closed has most =
-        no_less (spent_from c s rest) (swapped_from c s rest) a b p q
+        no_less (spent_from c s rest) (steps_sum c s rest) a b p q
         (some_spent n c costs s closed.0 rest closed.1.1 (omega (arith, closed.2)))
-        (ratio_to (gain_from c s rest) (spent_from c s rest) (swapped_from c s rest) a b (gain_split c s rest) has)
-        (at_most_to (gain_from c s rest) (spent_from c s rest) (swapped_from c s rest) p q (gain_split c s rest) most) less
+        (ratio_to (gain_from c s rest) (spent_from c s rest) (steps_sum c s rest) a b (gain_split c s rest) has)
+        (at_most_to (gain_from c s rest) (spent_from c s rest) (steps_sum c s rest) p q (gain_split c s rest) most) less
 
 pump_same : (n : ℕ) (c : ℕ → ℕ → ℕ) (a b p q : ℕ) → ((s : ℕ) → s < n → 0 < c s s) → IsPumpIndex n c a b → IsPumpIndex n c p q → a * q ≡ p * b
 pump_same n c a b p q costs one other = elim (cases_lt (a * q) (p * b)) [

@@ -1,6 +1,4 @@
-mod Examples
-pub mod CheckedWalks
-pub mod Soundness
+pub mod SummedWalks
 pub mod Totals
 pub mod Values
 pub mod Rounds

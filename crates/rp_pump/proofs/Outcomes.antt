@@ -5,7 +5,7 @@ use Rattle.std.specs.Prelude.{ℤ, pos}
 use Rattle.rp_walk.specs.ExactTotal.{ExactTotal}
 use Rattle.rp_walk.specs.Outcome.{SettlesInCycle, SettlesInValues, SettlesInWide}
 use Rattle.rp_walk.specs.Sums.{FitsI128, sums, whole_total}
-use Rattle.rp_pump.specs.PumpEvidence.{HasLeastPumpTotals, PumpHolds}
+use Rattle.rp_fit.specs.PumpEvidence.{HasLeastPumpTotals, PumpHolds}
 use Rattle.rp_pump.specs.InnerBest.{IsBest}
 use Rattle.rp_pump.specs.InnerTotal.{added}
 use Rattle.rp_pump.proofs.Rounds.{IsGreater, IsGreater-falls, left, left_falls, rises}

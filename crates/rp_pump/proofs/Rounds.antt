@@ -17,14 +17,14 @@ use Rattle.rp_walk.proofs.Numbers.{parts_of_sum}
 use Rattle.rp_walk.proofs.SumWalks.{negative_from}
 use Rattle.rp_evidence.specs.Preference.{IsWeak}
 use Rattle.rp_evidence.specs.Walk.{IsClosedWalk, LeadsTo}
-use Rattle.rp_pump.specs.MoneyPump.{HasPumpRatio, gain, gain_from, spent_from, walk_spent}
-use Rattle.rp_pump.specs.PumpTotals.{total_from}
-use Rattle.rp_pump.specs.PumpEvidence.{IsWeakCycle}
+use Rattle.rp_fit.specs.MoneyPump.{HasPumpRatio, gain, gain_from, spent_from, walk_spent}
+use Rattle.rp_fit.specs.PumpTotals.{total_from}
+use Rattle.rp_fit.specs.PumpEvidence.{IsWeakCycle}
 use Rattle.rp_pump.specs.InnerBest.{IsBest}
 use Rattle.rp_pump.specs.InnerTotal.{added}
-use Rattle.rp_pump.specs.InnerWalks.{swapped_from, walk_swapped}
-use Rattle.rp_pump.proofs.CheckedWalks.{ratio_by_sums}
-use Rattle.rp_pump.proofs.Soundness.{gain_split, ratio_to, some_spent}
+use Rattle.rp_fit.specs.WalkSums.{steps_sum, next_sum}
+use Rattle.rp_pump.proofs.SummedWalks.{ratio_by_sums}
+use Rattle.rp_fit.proofs.PumpIndex.{gain_split, ratio_to, some_spent}
 use Rattle.rp_pump.proofs.Totals.{IsSmall, added_itself, along_weak, bound, low_is_weak, step_other}
 
 -- ---- no step of a simple cycle goes from an observation to itself
@@ -73,7 +73,7 @@ at_most_zero z h = omega (arith, ints)
 pub record IsGreater (n : ℕ) (c : ℕ → ℕ → ℕ) (num den : ℕ) (walk : List ℕ) : Type 0 where
   pub few : length walk ≤ n + 1
   pub closed : IsClosedWalk n (IsWeak c) walk
-  pub greater : num * walk_spent c walk + walk_swapped c walk * den < walk_spent c walk * den
+  pub greater : num * walk_spent c walk + next_sum c walk * den < walk_spent c walk * den
 
 module _ (n : ℕ) (c : ℕ → ℕ → ℕ) (num den : ℕ) (small : (s t : ℕ) → IsSmall (added c num den s t)) (few : n * bound < 2 ^ 121) where
   greater_by : (first : ℕ) (rest : List ℕ) → AreObservations (sums n (added c num den)) first rest → IsSimpleCycle n (first ∷ rest) → 0 < length rest → end_of first rest ≡ first
@@ -96,7 +96,7 @@ module _ (n : ℕ) (c : ℕ → ℕ → ℕ) (num den : ℕ) (small : (s t : ℕ
       record {
         few = simple.few;
         closed = (first, (refl, round), omega arith);
-        greater = less_in_numbers (gain_from c first (t ∷ u ∷ rest)) (spent_from c first (t ∷ u ∷ rest)) (swapped_from c first (t ∷ u ∷ rest)) num den (gain_split c first (t ∷ u ∷ rest))
+        greater = less_in_numbers (gain_from c first (t ∷ u ∷ rest)) (spent_from c first (t ∷ u ∷ rest)) (steps_sum c first (t ∷ u ∷ rest)) num den (gain_split c first (t ∷ u ∷ rest))
             (subst (λ z. z <ℤ pos 0) total negative);
       }
 
@@ -148,8 +148,8 @@ ratio_rises num den p q spent swapped hq greater is =
 pub rises : (n : ℕ) (c : ℕ → ℕ → ℕ) (num den p q : ℕ) (walk : List ℕ) → IsGreater n c num den walk → 1 ≤ q → HasPumpRatio c p q walk → num * q < p * den
 rises n c num den p q [] greater hq ratio = absurd greater.closed.1
 rises n c num den p q (x ∷ rest) greater hq ratio =
-    ratio_rises num den p q (spent_from c x rest) (swapped_from c x rest) hq greater.greater
-    (ratio_to (gain_from c x rest) (spent_from c x rest) (swapped_from c x rest) p q (gain_split c x rest) ratio)
+    ratio_rises num den p q (spent_from c x rest) (steps_sum c x rest) hq greater.greater
+    (ratio_to (gain_from c x rest) (spent_from c x rest) (steps_sum c x rest) p q (gain_split c x rest) ratio)
 
 -- ---- the walk in hand
 
@@ -168,7 +168,7 @@ some_walk_spent n c [] costs w = absurd w.1
 some_walk_spent n c (x ∷ rest) costs w = some_spent n c costs x w.0 rest w.1.1 (omega (arith, w.2))
 
 pub IsBest-lowest : (n : ℕ) (c : ℕ → ℕ → ℕ) (walk : List ℕ) (spent swapped gained p q : ℕ) → IsWeakCycle n c walk
-    → spent ≡ walk_spent c walk → swapped ≡ walk_swapped c walk → gained + swapped ≡ spent → 1 ≤ spent → spent ≤ 2 ^ 60
+    → spent ≡ walk_spent c walk → swapped ≡ next_sum c walk → gained + swapped ≡ spent → 1 ≤ spent → spent ≤ 2 ^ 60
     → IsLowestTerms gained spent (record { num = p; den = q }) → q ≤ spent → IsBest n c p q walk
 IsBest-lowest n c walk spent swapped gained p q cycle is_spent is_swapped sum some fits lowest small = record {
   few = cycle.few;

@@ -4,10 +4,10 @@ use Rattle.std.specs.Prelude.{ℤ, pos, ◌+ℤ◌, ◌-ℤ◌, ◌*ℤ◌, ◌�
 use Rattle.rp_evidence.specs.Preference.{AgreeBelow, IsWeak}
 use Rattle.rp_evidence.specs.Walk.{IsClosedWalk, IsWalk, LeadsTo}
 use Rattle.rp_evidence.proofs.SameCosts.{walk_same, walk_same_back, weak_same}
-use Rattle.rp_pump.specs.MoneyPump.{HasPumpRatio, IsPumpIndex, PumpsAtMost, gain, gain_from, spent_from, walk_gain, walk_spent}
-use Rattle.rp_pump.specs.PumpEvidence.{BoundsFrom, HasLeastPumpTotals, PumpHolds, value_at}
-use Rattle.rp_pump.specs.PumpTotals.{IsLeastPumpTotal, excess, step_total, total_from, walk_total}
-use Rattle.rp_pump.specs.declared.part.PumpPart.{PumpPart}
+use Rattle.rp_fit.specs.MoneyPump.{HasPumpRatio, IsPumpIndex, PumpsAtMost, gain, gain_from, spent_from, walk_gain, walk_spent}
+use Rattle.rp_fit.specs.PumpEvidence.{BoundsFrom, HasLeastPumpTotals, PumpHolds, value_at}
+use Rattle.rp_fit.specs.PumpTotals.{IsLeastPumpTotal, excess, step_total, total_from, walk_total}
+use Rattle.rp_fit.specs.declared.pump.PumpPart.{PumpPart}
 
 module _ (n : ℕ) (c d : ℕ → ℕ → ℕ) (same : AgreeBelow n c d) where
   -- ---- along a walk

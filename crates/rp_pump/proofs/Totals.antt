@@ -21,7 +21,7 @@ use Rattle.rp_walk.proofs.SumLaws.{sums_fit_alike, sums_keep_order}
 use Rattle.rp_walk.proofs.Walks.{IsTotal-here}
 use Rattle.rp_evidence.specs.Preference.{IsWeak}
 use Rattle.rp_evidence.specs.Walk.{LeadsTo}
-use Rattle.rp_pump.specs.PumpTotals.{excess, step_total, total_from}
+use Rattle.rp_fit.specs.PumpTotals.{excess, step_total, total_from}
 use Rattle.rp_pump.specs.InnerTotal.{added, other_added}
 
 -- what a weak step takes away at most

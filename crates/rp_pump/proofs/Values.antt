@@ -16,8 +16,8 @@ use Rattle.rp_walk.proofs.Unbounded.{IsLeast-short}
 use Rattle.rp_evidence.specs.Preference.{IsWeak}
 use Rattle.rp_evidence.specs.Walk.{AnyStep, IsWalk, LeadsTo}
 use Rattle.rp_evidence.proofs.Walks.{leads_by_weaker}
-use Rattle.rp_pump.specs.PumpTotals.{IsLeastPumpTotal, excess, walk_total}
-use Rattle.rp_pump.specs.PumpEvidence.{FitsPumpValue}
+use Rattle.rp_fit.specs.PumpTotals.{IsLeastPumpTotal, excess, walk_total}
+use Rattle.rp_fit.specs.PumpEvidence.{FitsPumpValue}
 use Rattle.rp_pump.specs.InnerTotal.{added}
 use Rattle.rp_pump.proofs.Totals.{IsSmall, added_other, along_above, along_weak, bound, low_is_weak, other_weak}
 

@@ -3,7 +3,7 @@ use Rattle.std.specs.Prelude.{ℕ, ◌+◌, ◌^◌, ◌≤◌, List, length}
 use Rattle.rp_num.specs.Fraction.{IsCoprime}
 use Rattle.rp_evidence.specs.Preference.{IsWeak}
 use Rattle.rp_evidence.specs.Walk.{IsClosedWalk}
-use Rattle.rp_pump.specs.MoneyPump.{HasPumpRatio}
+use Rattle.rp_fit.specs.MoneyPump.{HasPumpRatio}
 
 -- A closed walk of weak steps and its ratio in lowest terms.
 pub record IsBest (n : ℕ) (c : ℕ → ℕ → ℕ) (num den : ℕ) (walk : List ℕ) : Type 0 where

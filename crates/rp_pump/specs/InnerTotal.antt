@@ -1,6 +1,6 @@
 -- For the proofs alone: what the steps between all observations add.
 use Rattle.std.specs.Prelude.{ℕ, ◌^◌, ◌==◌, if◌then◌else◌, ℤ, pos, nat_lt}
-use Rattle.rp_pump.specs.PumpTotals.{excess}
+use Rattle.rp_fit.specs.PumpTotals.{excess}
 
 -- A step to another observation that is not weak adds 2^121, more than weak steps can take away.
 abbrev pub other_added : (ℕ → ℕ → ℕ) → ℕ → ℕ → ℕ → ℕ → ℤ

@@ -4,7 +4,7 @@ use Rattle.rp_num.specs.Fraction.{fraction_text}
 use Rattle.rp_print.specs.HeadText.{head_text}
 use Rattle.rp_print.specs.ListText.{line_of, ordinals_text, sums_text}
 use Rattle.rp_print.specs.LowestTerms.{lowest_terms}
-use Rattle.rp_pump.specs.declared.part.PumpPart.{PumpPart}
+use Rattle.rp_fit.specs.declared.pump.PumpPart.{PumpPart}
 use Rattle.rp_table.specs.Tables.{Observations}
 
 -- the line on the table, the ratio in lowest terms, a closed walk that has it, and the values

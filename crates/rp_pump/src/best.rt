@@ -1,7 +1,7 @@
 //! The best closed walk so far, with its ratio.
 ghost use Rattle.std.specs.Prelude.{◌≡◌, ◌∷◌, [], IfOk};
 ghost use Rattle.rp_pump.specs.InnerBest.{IsBest};
-ghost use Rattle.rp_pump.specs.PumpEvidence.{IsWeakCycle};
+ghost use Rattle.rp_fit.specs.PumpEvidence.{IsWeakCycle};
 ghost use Rattle.rp_table.specs.Cost.{cost_at};
 
 use crate::sums::gained_and_spent;

@@ -2,7 +2,7 @@
 ghost use Rattle.std.specs.Prelude.{◌≡◌, ◌≤◌, IfOk};
 ghost use Rattle.rp_pump.specs.Report.{pump_report};
 
-use crate::part::PumpPart;
+use rp_fit::PumpPart;
 use rp_num::NoMemory;
 use rp_print::{lowest_terms, push_fraction_line, push_head, push_ordinals, push_sums};
 use rp_table::Table;

@@ -2,13 +2,13 @@
 ghost use Rattle.std.specs.Prelude.{◌≡◌, ◌↔◌, ◌<◌, ◌∷◌, [], IfOk};
 ghost use Rattle.rp_evidence.specs.Efficiency.{FailsGarp};
 ghost use Rattle.rp_num.specs.Fraction.{IsCoprime};
-ghost use Rattle.rp_pump.specs.MoneyPump.{IsPumpIndex};
-ghost use Rattle.rp_pump.specs.PumpEvidence.{HasLeastPumpTotals, PumpHolds};
+ghost use Rattle.rp_fit.specs.MoneyPump.{IsPumpIndex};
+ghost use Rattle.rp_fit.specs.PumpEvidence.{HasLeastPumpTotals, PumpHolds};
 ghost use Rattle.rp_table.specs.Cost.{cost_at};
 
 use crate::best::Best;
-use crate::part::PumpPart;
 use crate::total::PumpTotal;
+use rp_fit::PumpPart;
 use rp_limits::table::RECORDS;
 use rp_num::NoMemory;
 use rp_table::Costs;

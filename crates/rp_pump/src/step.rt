@@ -2,7 +2,7 @@
 ghost use Rattle.std.specs.Prelude.{◌≡◌, ◌*◌, ◌↔◌, ◌<◌, ◌≤◌, ◌^◌, ◌-ℤ◌, IsTrue, pos};
 ghost use Rattle.std.specs.Int.RustNames.{unsigned_abs};
 ghost use Rattle.rp_evidence.specs.Preference.{IsWeak};
-ghost use Rattle.rp_pump.specs.PumpTotals.{excess};
+ghost use Rattle.rp_fit.specs.PumpTotals.{excess};
 ghost use Rattle.rp_table.specs.Cost.{cost_at};
 
 use rp_table::Costs;

@@ -1,8 +1,9 @@
 //! What a closed walk gains, and what is spent on it.
 ghost use Rattle.std.specs.Prelude.{◌≡◌, ◌+◌, ◌*◌, ◌<◌, ◌≤◌, ◌^◌, length};
-ghost use Rattle.rp_pump.specs.InnerWalks.{AreObserved, walk_swapped};
-ghost use Rattle.rp_pump.specs.MoneyPump.{walk_spent};
-ghost use Rattle.rp_pump.specs.PumpEvidence.{IsWeakCycle};
+ghost use Rattle.rp_pump.specs.InnerWalks.{AreObserved};
+ghost use Rattle.rp_fit.specs.WalkSums.{next_sum};
+ghost use Rattle.rp_fit.specs.MoneyPump.{walk_spent};
+ghost use Rattle.rp_fit.specs.PumpEvidence.{IsWeakCycle};
 ghost use Rattle.rp_table.specs.Cost.{cost_at};
 ghost use Rattle.rp_limits.specs.declared.table.TheConstants.{RECORDS};
 
@@ -13,7 +14,7 @@ use rp_table::Costs;
 pub(crate) fn gained_and_spent(costs: &Costs, walk: &[u32]) -> (u64, u64)
     requires { IsWeakCycle costs.now.n (cost_at costs.now) walk.now }
     ensures spent { result.1 ≡ walk_spent (cost_at costs.now) walk.now }
-    ensures gained { result.0 + walk_swapped (cost_at costs.now) walk.now ≡ result.1 }
+    ensures gained { result.0 + next_sum (cost_at costs.now) walk.now ≡ result.1 }
     ensures some { 1 ≤ result.1 }
     ensures small { result.1 ≤ RECORDS * 2 ^ 51 }
 {
@@ -44,7 +45,7 @@ fn swapped_along(costs: &Costs, walk: &[u32]) -> u64
     requires some { 0 < length walk.now }
     requires few { length walk.now ≤ RECORDS + 1 }
     requires observed { AreObserved costs.now.n walk.now }
-    ensures sum { result ≡ walk_swapped (cost_at costs.now) walk.now }
+    ensures sum { result ≡ next_sum (cost_at costs.now) walk.now }
     ensures small { result ≤ RECORDS * 2 ^ 51 }
 {
     let mut sum = 0;

@@ -16,7 +16,7 @@ use Rattle.rp_people.specs.Rationalizing.{HasConcaveUtility, HasHomogeneousUtili
 use Rattle.rp_people.specs.Rationalizing.{HasNonsatiatedHomotheticPreference, HasNonsatiatedPreference}
 use Rattle.rp_people.specs.TableChoices.{choices_at, choices_of}
 use Rattle.rp_power.specs.PowerCount.{IsPowerCount}
-use Rattle.rp_pump.specs.MoneyPump.{IsPumpIndex}
+use Rattle.rp_fit.specs.MoneyPump.{IsPumpIndex}
 use Rattle.rp_table.specs.Cost.{cost_of}
 use Rattle.rp_table.specs.Tables.{Observations, goods_of, records_of}
 use Rattle.rp_rows.specs.Words.{homothetic_verdict}

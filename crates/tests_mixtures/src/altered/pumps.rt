@@ -1,7 +1,9 @@
 //! Altered evidence on a money pump.
 use crate::altered::altered_pumps::{CASES, COUNT, TABLES};
 use crate::altered::numbers::Numbers;
-use rp_pump::{PumpPart, check_pump};
+use rp_check_walk_levels::check_pump;
+use rp_clauses::input::Input;
+use rp_fit::PumpPart;
 use rp_table::Costs;
 use rp_text::read_table;
 use std::alloc::Global;
@@ -24,7 +26,7 @@ fn accepted(alloc: Global, numbers: &mut Numbers) -> Result<bool, Fail> {
         return Ok(false);
     }
     let costs = Costs::of(alloc, &table)?;
-    Ok(check_pump(&costs, &part))
+    Ok(check_pump(&Input::new(&table, &costs), &part) == Ok(()))
 }
 
 #[test]

@@ -1,6 +1,8 @@
 //! Forged evidence on a money pump.
+use rp_check_walk_levels::check_pump;
+use rp_clauses::input::Input;
+use rp_fit::PumpPart;
 use rp_num::Seq;
-use rp_pump::{PumpPart, check_pump};
 use rp_table::Costs;
 use rp_text::read_table;
 use std::alloc::Global;
@@ -21,7 +23,7 @@ fn accepts(alloc: Global, file: &str, part: &PumpPart) -> Result<bool, Fail> {
         return Ok(false);
     }
     let costs = Costs::of(alloc, &table)?;
-    Ok(check_pump(&costs, part))
+    Ok(check_pump(&Input::new(&table, &costs), part) == Ok(()))
 }
 
 /// The part of these.

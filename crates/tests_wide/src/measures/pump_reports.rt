@@ -1,5 +1,8 @@
 //! The pumps of worked tables.
-use rp_pump::{PumpPart, check_pump, pump, report_pump};
+use rp_check_walk_levels::check_pump;
+use rp_clauses::input::Input;
+use rp_fit::PumpPart;
+use rp_pump::{pump, report_pump};
 use rp_table::{Costs, Table};
 use rp_text::read_table;
 use std::alloc::Global;
@@ -36,7 +39,7 @@ fn found_pump(rt: &impl Abort, alloc: Global, table: &Table) -> Result<PumpPart,
     assert!(rt; !table.levelled());
     let costs = Costs::of(alloc, table)?;
     let part = pump(alloc, &costs)?;
-    assert!(rt; check_pump(&costs, &part));
+    assert!(rt; check_pump(&Input::new(table, &costs), &part) == Ok(()));
     Ok(part)
 }
 

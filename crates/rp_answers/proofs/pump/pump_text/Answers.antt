@@ -3,7 +3,7 @@ use Rattle.rp_evidence.specs.Efficiency.{FailsGarp}
 use Rattle.rp_evidence.specs.Preference.{AgreeBelow}
 use Rattle.rp_evidence.proofs.SameCosts.{agree_back, violation_same}
 use Rattle.rp_pump.proofs.SamePumps.{holds_same, index_same, totals_same}
-use Rattle.rp_pump.specs.declared.part.PumpPart.{PumpPart}
+use Rattle.rp_fit.specs.declared.pump.PumpPart.{PumpPart}
 use Rattle.rp_table.specs.Cost.{cost_at, cost_of}
 use Rattle.rp_answers.specs.PumpText.{IsPumpAnswer}
 use Rattle.rp_answers.proofs.pump.pump_text.Goals as goal

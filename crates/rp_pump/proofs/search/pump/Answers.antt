@@ -3,7 +3,7 @@ use Rattle.rp_table.specs.Cost.{cost_at}
 use Rattle.rp_table.proofs.CostLimits.{cost_positive}
 use Rattle.rp_pump.specs.InnerBest.{IsBest}
 use Rattle.rp_pump.proofs.Outcomes.{comes_nearer, gives_away, has_least, holds, is_greater, stays_narrow}
-use Rattle.rp_pump.proofs.Soundness.{index_of, pumps_where_garp_fails}
+use Rattle.rp_fit.proofs.PumpIndex.{index_of, pumps_where_garp_fails}
 use Rattle.rp_pump.proofs.search.pump.Goals as goal
 
 pub unreachable-requires : goal.unreachable-requires

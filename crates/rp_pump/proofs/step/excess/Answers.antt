@@ -2,7 +2,7 @@ use Rattle.std.proofs.Common.{◌+◌, ◌*◌, ◌∙◌, ap}
 use Rattle.std.proofs.lemmas.Int.{to_z-of_z}
 use mir.Syntax.{w128}
 use Rattle.rp_table.specs.Cost.{cost_at}
-use Rattle.rp_pump.proofs.Soundness.{excess_split}
+use Rattle.rp_fit.proofs.PumpIndex.{excess_split}
 use Rattle.rp_pump.proofs.step.excess.Goals as goal
 
 pub returns-clause-value : goal.returns-clause-value

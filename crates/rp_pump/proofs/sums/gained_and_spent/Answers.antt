@@ -1,7 +1,8 @@
 use Rattle.std.proofs.Common.{arith}
 use Rattle.rp_table.specs.Cost.{cost_at}
 use Rattle.rp_table.proofs.CostLimits.{cost_positive}
-use Rattle.rp_pump.proofs.CheckedWalks.{closed_observed, swapped_within}
+use Rattle.rp_fit.proofs.ClosedWeakWalks.{closed_observed}
+use Rattle.rp_pump.proofs.SummedWalks.{swapped_within}
 use Rattle.rp_pump.proofs.Rounds.{some_walk_spent}
 use Rattle.rp_pump.proofs.sums.gained_and_spent.Goals as goal
 

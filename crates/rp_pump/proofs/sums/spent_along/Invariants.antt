@@ -1,5 +1,5 @@
 use Rattle.std.proofs.Common.{◌≡◌, ◌+◌, ◌*◌, ◌^◌, ◌≤◌, take}
-use Rattle.rp_pump.specs.MoneyPump.{walk_spent}
+use Rattle.rp_fit.specs.MoneyPump.{walk_spent}
 use Rattle.rp_table.specs.Cost.{cost_at}
 use Rattle.rp_pump.proofs.sums.spent_along.Given as goal
 

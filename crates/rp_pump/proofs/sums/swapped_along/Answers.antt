@@ -1,6 +1,6 @@
 use Rattle.std.proofs.Common.{arith, refl}
 use Rattle.rp_table.specs.Cost.{cost_at}
-use Rattle.rp_pump.proofs.CheckedWalks.{one_entry_swapped, swapped_kept}
+use Rattle.rp_pump.proofs.SummedWalks.{one_entry_swapped, swapped_kept}
 use Rattle.rp_pump.proofs.sums.swapped_along.Goals as goal
 
 pub loop-k-init : goal.loop-k-init

@@ -1,5 +1,5 @@
 use Rattle.std.proofs.Common.{◌∙◌, refl}
-use Rattle.rp_pump.specs.MoneyPump.{IsPumpIndex}
+use Rattle.rp_fit.specs.MoneyPump.{IsPumpIndex}
 use Rattle.rp_table.specs.Cost.{cost_at, cost_of}
 use Rattle.rp_table.specs.Tables.{records_of}
 use Rattle.rp_pump.proofs.SamePumps.{index_same}
