@@ -19,6 +19,7 @@ is this command too.
   --welfare FILE           welfare bounds at the new prices of FILE, as JSON in the archive
   --archive FILE.tar       where tables and what belongs to them are kept: NUMBER/table.csv, NUMBER/certificate.json ..
   --rp PATH                the program rp-panel, or rp, beside which that stands, or the library
+  --exact                  doubles of a Parquet file as binary fractions, and not as the shortest decimals that give them back
   --no-wide                what is withheld stays so, and is not sought past the numbers that rp keeps
   --part K/N               every N-th block of households from the K-th on, for a cluster
   --quiet                  no line of progress
@@ -40,6 +41,7 @@ import time
 from typing import Iterator, Optional, Sequence
 
 from ..catalogue import DRAWS, SEED
+from ..exact import SHORTENED
 from ..faults import Failed, NoProgram
 from ..long_call import COLUMNS, FAULT, Asked, in_turn, line_of
 from .ends import Ends, Signalled
@@ -87,7 +89,7 @@ def parser() -> argparse.ArgumentParser:
     for name in ("--processes", "--power", "--gather"):
         it.add_argument(name, type=int)
     it.add_argument("--seed", type=int, default=1)
-    for name in ("--pump", "--certificates", "--no-wide", "--quiet", "--help"):
+    for name in ("--pump", "--certificates", "--exact", "--no-wide", "--quiet", "--help"):
         it.add_argument(name, action="store_true")
     return it
 
@@ -200,10 +202,10 @@ class Run:
 
     def __init__(self, words: argparse.Namespace, program: Program, first: bytes, header: str, apart: bool) -> None:
         self.words, self.part, self.program, self.first = (words, part_of(words.part), program, first)
-        self.long = LongFile(words.files[0], words.id)
+        self.long = LongFile(words.files[0], words.id, words.exact)
         self.target = through(part_name(words.files[1], self.part))
         self.archive = through(part_name(words.archive, self.part)) if words.archive else None
-        self.head = {"layout": LAYOUT, "columns": header, "part": self.part and list(self.part), **program.head()}
+        self.head = {"layout": LAYOUT, "columns": header, "part": self.part and list(self.part), "exact": words.exact, **program.head()}
         self.apart = apart
         self.rows = self.count = 0
         self.results: Optional[Results] = None
@@ -309,7 +311,7 @@ def analyse(words: argparse.Namespace) -> int:
     program = Program(words.rp, asked, words.certificates, new)
     refuse_places(words, program)
     with ENDS:
-        long = LongFile(words.files[0], words.id)
+        long = LongFile(words.files[0], words.id, words.exact)
         first = long.first()
     apart = is_apart(through(part_name(words.files[1], part_of(words.part))))
     while True:
@@ -319,7 +321,10 @@ def analyse(words: argparse.Namespace) -> int:
                 tell(f"{run.target}: this part is done already")
                 return tally_of(run.target).end()
         try:
-            return run.all()
+            status = run.all()
+            if run.long.shortened:
+                tell(f"numbers: {SHORTENED}")
+            return status
         except Apart as household:
             tell(f"{words.files[0]}: the records of {household.args[0]} do not stand together: it begins again, and puts them together first")
             run.drop()

@@ -14,7 +14,9 @@ import hashlib
 import io
 import sqlite3
 import tempfile
+from fractions import Fraction
 from itertools import chain
+from math import isfinite
 from typing import Any, Callable, Iterator, NamedTuple, Optional
 
 from ..catalogue import LIMITS
@@ -126,10 +128,12 @@ def noted(lines: Iterator[str], taken: list[str]) -> Iterator[str]:
 
 
 class LongFile:
-    """A long file, while it is read. `header` is the text of its names of columns, `place` where the ids are."""
+    """A long file, while it is read. `header` is the text of its names of columns, `place` where the ids are. Doubles of a file of
+    Parquet are taken as the shortest decimals that give them back, of which `shortened` tells, or exactly, as binary fractions."""
 
-    def __init__(self, file: str, name: str) -> None:
-        self.file, self.name = file, name
+    def __init__(self, file: str, name: str, is_exact: bool = False) -> None:
+        self.file, self.name, self.form = file, name, Form(shortest=not is_exact)
+        self.shortened = False
         self.header, self.names, self.place = "", [""], 0
         # What says how much of it was read; and when all was, its checksum.
         self.read: Callable[[], float] = float
@@ -179,7 +183,7 @@ class LongFile:
             yield number, own if len(own) <= ID_BYTES else "", text
 
     def _of_parquet(self) -> Iterator[tuple[str, list[str]]]:
-        """Yields the same of a file of Parquet, whose numbers become texts without rounding."""
+        """Yields the texts and fields of the records of a file of Parquet, whose numbers are not rounded."""
         try:
             from pyarrow.parquet import ParquetFile
         except ImportError:
@@ -192,8 +196,16 @@ class LongFile:
             lists = batch.to_pydict()
             done += len(lists[names[0]])
             for values in zip(*(lists[name] for name in names)):
-                yield line([text(value) for value in values])
+                yield line([self._text(value) for value in values])
         self.sum = sum_of(self.file)
+
+    def _text(self, value: Any) -> str:
+        """Returns the text of a value; that of a missing one is empty."""
+        if isinstance(value, str):
+            return value
+        own = text_of(value, self.form)
+        self.shortened = self.shortened or is_shortened(value, own)
+        return own
 
 
 def line(fields: list[str]) -> tuple[str, list[str]]:
@@ -201,13 +213,9 @@ def line(fields: list[str]) -> tuple[str, list[str]]:
     return f"{joined(own)}\n", own
 
 
-# A double of a file of Parquet is the binary fraction that it is: no line of the table could say that it was shortened.
-EXACT = Form(shortest=False)
-
-
-def text(value: Any) -> str:
-    """Returns the text of a value, without rounding; that of a missing one is empty."""
-    return value if isinstance(value, str) else text_of(value, EXACT)
+def is_shortened(value: Any, own: str) -> bool:
+    """Whether the text of a double is another number than the binary fraction that it is."""
+    return isinstance(value, float) and not value.is_integer() and isfinite(value) and Fraction(own) != Fraction(value)
 
 
 # ---- households
