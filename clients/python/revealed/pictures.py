@@ -26,7 +26,7 @@ def axes_of(ax: Any) -> Any:
     try:
         from matplotlib import pyplot
     except ImportError as wrong:
-        raise BadData("a picture needs the package matplotlib") from wrong
+        raise BadData("a picture needs the package matplotlib: pip install matplotlib") from wrong
     return pyplot.subplots()[1]
 
 
