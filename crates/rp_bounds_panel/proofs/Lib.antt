@@ -1,1 +1,3 @@
 mod RowLemmas
+pub mod SameSides
+pub mod SameBounds

@@ -1,2 +1,3 @@
 pub mod BoundsText
+pub mod BoundsAlike
 pub mod InnerRows

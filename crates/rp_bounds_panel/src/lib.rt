@@ -2,6 +2,8 @@
 //! first records, and one for each record that is refused for its id.
 #![tactic(auto)]
 
+mod laws;
 mod rows;
 
+pub use laws::panels_decide_the_bounds;
 pub use rows::write_bounds;
