@@ -2,8 +2,6 @@
 use Rattle.std.proofs.Common.{◌≡◌, ◌≢◌, ◌<◌, ◌≤◌, ◌+◌, false, ℕ, List, [], Option, None, Some, Result, Ok, Err, IfErr, IfOk, inl, inr, length, refl, replicate, sym, subst, ap, ◌∙◌, arith}
 use Rattle.std.proofs.lemmas.List.{length-replicate}
 use Rattle.std.specs.Prelude.{codes, unwrap_or}
-use Rattle.std.specs.Result.{IsErr, IsErrAnd}
-use Rattle.rp_bound_rows.specs.declared.asked.BoundsAsked.{BoundsAsked}
 use Rattle.rp_limits.specs.declared.long.TheConstants.{BYTES}
 use Rattle.rp_limits.specs.declared.run.TheConstants.{MOST_BYTES}
 use Rattle.rp_long.specs.Panels.{Panel, denoted_panel, panel_in}
@@ -12,8 +10,8 @@ use Rattle.rp_long.specs.declared.fault.LongFault.TheVariants as long_fault
 use Rattle.rp_outside.specs.Faults.{EachStays, HasRisen}
 use Rattle.rp_outside.specs.Known.{AreAll, AreMoreThan}
 use Rattle.rp_sheet.specs.declared.fault.TableFault.TheVariants as table_fault
-use Rattle.rp_panel_run.specs.Endings.{AnswersWith, Contents, Files, HasFault, IsAnswerFor, IsPanelFile, IsTextOf, RefusesWith}
-use Rattle.rp_panel_run.specs.InnerCauses.{IsAnswerBeside, IsCauseOf, IsFaultCause, IsFaultLine, IsFaultOfRecords, IsLoadCause, IsNewCause, IsTextBeside, IsToldAs, is_memory}
+use Rattle.rp_panel_run.specs.Endings.{AnswersWith, Files, HasFault, IsPanelFile}
+use Rattle.rp_panel_run.specs.InnerCauses.{IsAnswerBeside, IsCauseOf, IsFaultCause, IsFaultOfRecords, IsLoadCause, IsNewCause, IsTextBeside, IsToldAs, is_memory}
 use Rattle.rp_panel_run.specs.Questions.{Asking, id_name}
 use Rattle.rp_panel_run.specs.Told.{file_line, long_fault_text, unread_line}
 use Rattle.rp_panel_run.specs.declared.answer.Answer.{Answer}

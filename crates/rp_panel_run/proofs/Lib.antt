@@ -3,3 +3,4 @@ pub mod CauseLemmas
 pub mod TurnLemmas
 pub mod EndLemmas
 pub mod SameRows
+pub mod SameBounds

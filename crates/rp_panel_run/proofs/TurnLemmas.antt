@@ -9,7 +9,7 @@ use Rattle.rp_outside.specs.Reads.{calls_through}
 use Rattle.rp_panel_run.specs.Endings.{Files, HasFault}
 use Rattle.rp_panel_run.specs.InnerCauses.{AsksForNew, AsksForNone, IsFaulty}
 use Rattle.rp_panel_run.specs.Questions.{Asking, files_of, new_files}
-use Rattle.rp_panel_run.specs.Turns.{AreAskedInTurn, AreInOrder, AreReadInTurn, AsksByName, AsksInTurn, GrowsInOrder, IsKnownRefused, calls_of_long, calls_of_new}
+use Rattle.rp_panel_run.specs.Turns.{AreAskedInTurn, AreInOrder, AreReadInTurn, AsksByName, AsksInTurn, GrowsInOrder, IsKnownRefused, calls_of_new}
 
 -- no reads are of any files
 no_reads : (files : List (List ℕ)) → AreInOrder files []

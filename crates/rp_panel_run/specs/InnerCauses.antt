@@ -1,5 +1,5 @@
 -- Why a question about a long file has no table, as the functions of this crate hand it on.
-use Rattle.std.specs.Prelude.{◌≡◌, ◌≢◌, ◌≤◌, ◌⊎◌, ⊤, ℕ, ◌+◌, Bool, true, false, List, Option, None, Ok, Err, codes}
+use Rattle.std.specs.Prelude.{◌≡◌, ◌≢◌, ◌≤◌, ◌⊎◌, ⊤, ℕ, ◌+◌, Bool, true, false, List, Option, None, Err, codes}
 use Rattle.rp_bound_rows.specs.declared.asked.BoundsAsked.{BoundsAsked}
 use Rattle.rp_limits.specs.declared.run.TheConstants.{MOST_BYTES}
 use Rattle.rp_outside.specs.Asked.{KeepsReads, Reads}

@@ -1,6 +1,6 @@
 //! A call of the program `rp-panel`: its help page and its version, and else a table, with a hint after each error.
 ghost use Rattle.std.specs.Prelude.{◌≡◌, ◌≢◌, ◌⊎◌, ◌≤◌, ℕ, List, None, Some};
-ghost use Rattle.std.specs.Prelude.{codes, if◌then◌else◌, map, string_bytes, true};
+ghost use Rattle.std.specs.Prelude.{codes, map, string_bytes, true};
 ghost use Rattle.rp_guide.specs.Codes.{code_of_line};
 ghost use Rattle.rp_guide.specs.Pages.{panel_page};
 ghost use Rattle.rp_outside.specs.Faults.{EachStays, HasRisen, NoneFalls};

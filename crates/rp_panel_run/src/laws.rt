@@ -1,6 +1,8 @@
 //! Laws of answers and refusals, also over files of which nothing is known. Each function is empty: its contract is the
 //! law.
-ghost use Rattle.std.specs.Prelude.{◌≡◌, ℕ, List, [], ◌∷◌, None, false};
+ghost use Rattle.std.specs.Prelude.{◌≡◌, ℕ, List, [], ◌∷◌, None, Some, false};
+ghost use Rattle.rp_bound_rows.specs.declared.asked.BoundsAsked.{BoundsAsked};
+ghost use Rattle.rp_bounds_panel.specs.BoundsAlike.{AreSameButWithheld as AreSameBoundsButWithheld};
 ghost use Rattle.rp_panel_run.specs.Alike.{AreSameButWithheld};
 ghost use Rattle.rp_panel_run.specs.Endings.{AnswersWith, Contents, Files, IsRefusal, IsTextOf};
 ghost use Rattle.rp_panel_run.specs.Endings.{RefusesWith};
@@ -37,4 +39,19 @@ pub fn bytes_decide_the_verdicts()
     ensures one_verdict { (a : Asking) (held : Contents) (text told other_text other : List ℕ)
         → a.bounds ≡ None → IsTextOf a held text told → IsTextOf a held other_text other
         → AreSameButWithheld a.kept text other_text }
+{}
+
+/// The bytes of a long file and of a file of new prices decide the text of bounds: there is one text of the stated bounds.
+/// Where other evidence is looked for than the stated one, two texts tell the same of each bound of each household and of
+/// each record that is refused, but that one may withhold an amount which the other gives: how often such evidence is found
+/// is not fixed. Violations, faults and upper bounds on the money metric are the same in both.
+pub fn bytes_decide_the_bounds()
+    ensures one_text { (a : Asking) (held : Contents) (asked : BoundsAsked)
+        (text told other_text other : List ℕ)
+        → a.bounds ≡ Some asked → a.wide ≡ false → IsTextOf a held text told
+        → IsTextOf a held other_text other → text ≡ other_text }
+    ensures one_bound { (a : Asking) (held : Contents) (asked : BoundsAsked)
+        (text told other_text other : List ℕ)
+        → a.bounds ≡ Some asked → IsTextOf a held text told → IsTextOf a held other_text other
+        → AreSameBoundsButWithheld asked a.kept text other_text }
 {}

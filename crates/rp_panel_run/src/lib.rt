@@ -13,7 +13,8 @@ mod words;
 
 pub use helping::run_panel_with_help;
 pub use laws::{
-    bytes_decide_the_verdicts, bytes_decide_what_is_told, not_everything_answers_or_refuses,
+    bytes_decide_the_bounds, bytes_decide_the_verdicts, bytes_decide_what_is_told,
+    not_everything_answers_or_refuses,
 };
 pub use running::run_panel;
 pub use status::Status;

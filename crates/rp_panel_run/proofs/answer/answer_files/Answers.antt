@@ -1,4 +1,4 @@
-use Rattle.std.proofs.Common.{◌≤◌, List, ℕ, length, sym, subst, arith}
+use Rattle.std.proofs.Common.{◌≤◌, List, ℕ, length, sym, subst}
 use Rattle.rp_limits.specs.declared.long.TheConstants.{BYTES}
 use Rattle.rp_panel_run.proofs.CauseLemmas.{cause_of_files, file_cause, long_held, text_of_files}
 use Rattle.rp_panel_run.proofs.TurnLemmas.{both_asked, both_turn, long_asked, long_turn}

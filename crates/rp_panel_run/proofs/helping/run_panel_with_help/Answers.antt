@@ -1,4 +1,4 @@
-use Rattle.std.proofs.Common.{◌≡◌, List, ℕ, None, Some, map, string_bytes, subst}
+use Rattle.std.proofs.Common.{◌≡◌, List, ℕ, Some, map, string_bytes, subst}
 use Rattle.rp_guide.specs.Pages.{panel_page}
 use Rattle.rp_panel_run.specs.Endings.{GivesPage}
 use Rattle.rp_panel_run.proofs.helping.run_panel_with_help.Goals as goal
