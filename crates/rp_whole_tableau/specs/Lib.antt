@@ -1,1 +1,3 @@
+pub mod InnerPivots
+pub mod Pivots
 pub mod Reduced

@@ -1,6 +1,9 @@
 //! The choice of column and row.
+ghost use Rattle.std.specs.Prelude.{◌<◌, pos, ◌<ℤ◌, IfSome, length};
+ghost use Rattle.rp_whole_tableau.specs.Pivots.{number_at};
+
 use crate::signed::{is_less, product};
-use crate::tableau::Tableau;
+use crate::tableau::{Tableau, entry_at};
 
 /// The column that enters: the first with a negative entry in the objective row, the slacks before the others.
 pub fn entering_column(t: &Tableau) -> Option<usize> {
@@ -13,11 +16,11 @@ pub fn entering_column(t: &Tableau) -> Option<usize> {
     None
 }
 
-/// Whether row `first`, divided by its entry in column c, is lexicographically less than row `second`, divided by its
+/// Whether row `first`, divided by its entry in a column, is lexicographically less than row `second`, divided by its
 /// own. The entries are multiplied crosswise.
-fn is_lesser_row(t: &Tableau, c: usize, first: usize, second: usize) -> bool {
-    let own = t.entry(first, c);
-    let other = t.entry(second, c);
+fn is_lesser_row(t: &Tableau, column: &[i128], first: usize, second: usize) -> bool {
+    let own = entry_at(column, first);
+    let other = entry_at(column, second);
     for j in 0..t.width() {
         let left = product(other, t.entry(first, j));
         let right = product(own, t.entry(second, j));
@@ -31,14 +34,17 @@ fn is_lesser_row(t: &Tableau, c: usize, first: usize, second: usize) -> bool {
     false
 }
 
-/// The row that leaves where column c enters: of those with a positive entry there the lexicographically least, each
-/// divided by that entry. None where no row has one.
-pub fn leaving_row(t: &Tableau, c: usize) -> Option<usize> {
+/// The row that leaves where a column enters, which has its entry in each row: of the rows with a positive entry the
+/// lexicographically least, each divided by that entry. None where no row has one.
+pub fn leaving_row(t: &Tableau, column: &[i128]) -> Option<usize>
+    ensures inside { IfSome result (λ r. r < length column.now) }
+    ensures positive { IfSome result (λ r. pos 0 <ℤ number_at column.now r) }
+{
     let mut best = None;
-    for i in 0..t.basis.len() {
-        if t.entry(i, c) > 0 {
+    for i in 0..t.basis.len().min(column.len()) {
+        if column[i] > 0 {
             best = match best {
-                Some(row) if !is_lesser_row(t, c, i, row) => Some(row),
+                Some(row) if !is_lesser_row(t, column, i, row) => Some(row),
                 _ => Some(i),
             };
         }

@@ -1,7 +1,9 @@
 //! A tableau that takes columns.
+ghost use Rattle.std.specs.Prelude.{◌≡◌, IfOk, IfSome, length};
+
 use crate::choice::leaving_row;
 use crate::run::MOST_PIVOTS;
-use crate::tableau::{Tableau, entry_at};
+use crate::tableau::Tableau;
 use rp_num::NoMemory;
 use std::alloc::Global;
 
@@ -34,21 +36,6 @@ fn objective_row(alloc: Global, rows: usize) -> Result<Vec<i128>, NoMemory> {
     Ok(row)
 }
 
-/// Adds a column at the end of the rows.
-fn append(rows: &mut [Vec<i128>], column: &[i128]) -> Result<(), NoMemory> {
-    for i in 0..rows.len() {
-        rows[i].push(entry_at(column, i))?;
-    }
-    Ok(())
-}
-
-/// Cuts every row to so many entries.
-fn cut(rows: &mut [Vec<i128>], width: usize) {
-    for i in 0..rows.len() {
-        rows[i].truncate(width);
-    }
-}
-
 impl Tableau {
     /// The entry in row i of a column that has 1 in these rows: the sum of the entries of their slacks, and in the
     /// objective row less the denominator.
@@ -65,7 +52,9 @@ impl Tableau {
     }
 
     /// A column that has 1 in these rows, written out.
-    fn written_out(&self, alloc: Global, rows: &[u32]) -> Result<Vec<i128>, NoMemory> {
+    fn written_out(&self, alloc: Global, rows: &[u32]) -> Result<Vec<i128>, NoMemory>
+        ensures { IfOk result (λ column. length column.items ≡ length self.now.rows.items) }
+    {
         let mut column = Vec::new(alloc);
         for i in 0..self.rows.len() {
             column.push(self.entry_of(i, rows))?;
@@ -148,34 +137,34 @@ impl Grown {
         entering
     }
 
-    /// Pivots in the column at a place, which is this one. Whether some row leaves and each entry fits.
-    fn pivot_at(&mut self, alloc: Global, place: usize, column: usize) -> Result<bool, NoMemory> {
-        let Some(row) = leaving_row(&self.tableau, place) else {
-            return Ok(false);
-        };
-        if !self.tableau.pivot(alloc, row, place)? {
-            return Ok(false);
-        }
-        if row < self.tableau.basis.len() {
-            self.tableau.basis[row] = column;
-        }
-        Ok(true)
-    }
-
-    /// Pivots in a column, a slack or one that was added.
-    fn enter(&mut self, alloc: Global, column: usize) -> Result<bool, NoMemory> {
+    /// The entries of a column, a slack or one that was added; none where there is no such column.
+    fn entries_of(&self, alloc: Global, column: usize) -> Result<Option<Vec<i128>>, NoMemory>
+        ensures { IfOk result (λ found. IfSome found (λ entries.
+            length entries.items ≡ length self.now.tableau.rows.items)) }
+    {
         let width = self.tableau.width();
         if column < width {
-            return self.pivot_at(alloc, column, column);
+            return Ok(Some(self.tableau.column(alloc, column)?));
         }
-        let Some(rows) = self.columns.get(column - width) else {
+        match self.columns.get(column - width) {
+            Some(rows) => Ok(Some(self.tableau.written_out(alloc, rows.as_slice())?)),
+            None => Ok(None),
+        }
+    }
+
+    /// Pivots in a column, a slack or one that was added. Whether some row leaves and each entry fits.
+    fn enter(&mut self, alloc: Global, column: usize) -> Result<bool, NoMemory> {
+        let Some(entries) = self.entries_of(alloc, column)? else {
             return Ok(false);
         };
-        let entries = self.tableau.written_out(alloc, rows.as_slice())?;
-        append(self.tableau.rows.as_mut_slice(), entries.as_slice())?;
-        let done = self.pivot_at(alloc, width, column)?;
-        cut(self.tableau.rows.as_mut_slice(), width);
-        Ok(done)
+        let Some(row) = leaving_row(&self.tableau, entries.as_slice()) else {
+            return Ok(false);
+        };
+        if !self.tableau.pivot(alloc, row, entries.as_slice())? {
+            return Ok(false);
+        }
+        self.tableau.enter(row, column);
+        Ok(true)
     }
 
     /// Pivots until there is so much of all columns or none enters; false where an entry reaches 2^127, and after the

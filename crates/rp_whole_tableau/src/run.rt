@@ -17,12 +17,14 @@ pub fn run<P: Lp>(alloc: Global, p: &P) -> Result<Option<Pair>, NoMemory> {
         let Some(column) = entering_column(&t) else {
             return pair_of(alloc, &t, p.cols());
         };
-        let Some(row) = leaving_row(&t, column) else {
+        let entries = t.column(alloc, column)?;
+        let Some(row) = leaving_row(&t, entries.as_slice()) else {
             return Ok(None);
         };
-        if !t.pivot(alloc, row, column)? {
+        if !t.pivot(alloc, row, entries.as_slice())? {
             return Ok(None);
         }
+        t.enter(row, column);
     }
     Ok(None)
 }

@@ -1,5 +1,6 @@
 //! The tableau on whole numbers over one denominator.
-ghost use Rattle.std.specs.Prelude.{◌<◌};
+ghost use Rattle.std.specs.Prelude.{◌≡◌, ◌<◌, ◌≤◌, ◌^◌, IfOk, length};
+ghost use Rattle.rp_whole_tableau.specs.Pivots.{IsColumnAt, entry_in, number_at};
 
 use rp_farkas::Lp;
 use rp_num::NoMemory;
@@ -12,10 +13,14 @@ pub struct Tableau {
     pub den: u128,
     pub rows: Vec<Vec<i128>>,
     pub basis: Vec<usize>,
+    ghost positive: { 1 ≤ den },
+    ghost small: { den ≤ 2 ^ 127 },
 }
 
 /// The entry at a place, or 0 past the end.
-pub fn entry_at(row: &[i128], place: usize) -> i128 {
+pub fn entry_at(row: &[i128], place: usize) -> i128
+    ensures { result ≡ number_at row.now place }
+{
     match row.get(place) {
         Some(entry) => *entry,
         None => 0,
@@ -67,10 +72,31 @@ impl Tableau {
     }
 
     /// The entry in a row and a column, or 0 outside of the tableau.
-    pub fn entry(&self, i: usize, j: usize) -> i128 {
+    pub fn entry(&self, i: usize, j: usize) -> i128
+        ensures { result ≡ entry_in self.now.rows.items i j }
+    {
         match self.rows.get(i) {
             Some(row) => entry_at(row.as_slice(), j),
             None => 0,
+        }
+    }
+
+    /// A column, with its entry in each row.
+    #[tactic(auto, using(crate::proofs::Entries::column_more))]
+    pub fn column(&self, alloc: Global, j: usize) -> Result<Vec<i128>, NoMemory>
+        ensures { IfOk result (λ column. IsColumnAt self.now.rows.items j column.items) }
+    {
+        let mut column = Vec::with_capacity(alloc, self.rows.len())?;
+        for i in 0..self.rows.len() {
+            column.push(self.entry(i, j))?;
+        }
+        Ok(column)
+    }
+
+    /// Makes a column the basic one of a row.
+    pub fn enter(&mut self, row: usize, column: usize) {
+        if row < self.basis.len() {
+            self.basis[row] = column;
         }
     }
 

@@ -1,0 +1,9 @@
+use Rattle.std.proofs.Common.{◌≡◌, ◌<◌, ℕ, length}
+use Rattle.rp_whole_tableau.specs.Pivots.{entry_in, number_at}
+use Rattle.rp_whole_tableau.proofs.tableau.Tableau.column.Given as goal
+
+abbrev pub invariant-loop-i : goal.invariant-loop-i
+invariant-loop-i l = record {
+  count : length l.column.items ≡ l.i;
+  each : (k : ℕ) → k < l.i → number_at l.column.items k ≡ entry_in l.self.rows.items k l.j;
+}
