@@ -1,12 +1,12 @@
 -- Numbers with a sign, and rows whose entries are written one after another.
-use Rattle.std.proofs.Common.{◌≡◌, ◌≢◌, ◌⊎◌, ℕ, zero, suc, ◌+◌, ◌<◌, ◌≤◌, ℤ, pos, negsuc, neg_ℤ, ◌<ℤ◌, ◌+ℤ◌, ◌-ℤ◌, ◌*ℤ◌, Bool, true, false, not, ltb, if◌then◌else◌, List, [], ◌∷◌, ◌++◌, length, get_or, slice_set, Vec, inl, inr, refl, sym, ◌∙◌, ap, subst, arith, length-set, get_or-set_same, get_or-set_other}
+use Rattle.std.proofs.Common.{◌≡◌, ◌≢◌, ℕ, zero, suc, ◌+◌, ◌<◌, ◌≤◌, ℤ, pos, negsuc, neg_ℤ, ◌<ℤ◌, ◌-ℤ◌, ◌*ℤ◌, Bool, true, false, not, ltb, if◌then◌else◌, List, [], ◌∷◌, ◌++◌, length, get_or, slice_set, Vec, inl, inr, refl, sym, ◌∙◌, ap, subst, arith, length-set, get_or-set_same, get_or-set_other}
 use Rattle.std.specs.declared.alloc.Global.{Global}
 use Rattle.std.proofs.lemmas.Bool.{cases_lt, false≢true, le-ltb}
 use mathlib.Core.Bool.{beq}
 use Rattle.std.proofs.lemmas.Int.{ints}
 use Rattle.std.specs.Int.RustNames.{unsigned_abs}
 use Rattle.std.specs.Prelude.{slice_index_or}
-use Rattle.rp_whole_tableau.specs.Pivots.{IsRowRenewed, PassesWidth, FitsEntry, HasNoQuotientBy, IsColumnAt, IsPivotIn, PivotPasses, crossed, entry_in, number_at, row_of}
+use Rattle.rp_whole_tableau.specs.Pivots.{IsRowRenewed, IsPivotIn, PivotPasses, crossed, entry_in, number_at, row_of}
 use Rattle.rp_whole_tableau.specs.InnerPivots.{AreRenewedBelow, IsRenewedBelow, PassesSome}
 
 pub opposite : (n m : Bool) (x y z : ℕ) → not (beq n m) ≡ true → z ≡ x + y

@@ -1,5 +1,5 @@
 -- Pivots on whole numbers over one denominator, the last pivot (Edmonds 1967; Bareiss 1968).
-use Rattle.std.specs.Prelude.{ℤ, ℕ, ◌≡◌, ◌≢◌, ◌<◌, ◌≤◌, ◌^◌, pos, neg_ℤ, ◌*ℤ◌, ◌-ℤ◌, ◌<ℤ◌, if◌then◌else◌, List, [], ◌∷◌, zero, suc, length, get_or, Vec}
+use Rattle.std.specs.Prelude.{ℤ, ℕ, ◌≡◌, ◌≢◌, ◌<◌, ◌^◌, pos, neg_ℤ, ◌*ℤ◌, ◌-ℤ◌, if◌then◌else◌, List, [], ◌∷◌, zero, suc, length, get_or, Vec}
 use Rattle.std.specs.Int.RustNames.{unsigned_abs}
 use Rattle.std.specs.declared.alloc.Global.{Global}
 use Rattle.rp_two_words.specs.Words.{value_of}

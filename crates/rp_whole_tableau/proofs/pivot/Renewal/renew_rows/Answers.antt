@@ -1,4 +1,4 @@
-use Rattle.std.proofs.Common.{◌≡◌, ◌<◌, FitsSigned, pos, length, arith, rules, sym}
+use Rattle.std.proofs.Common.{◌<◌, FitsSigned, length, arith, rules, sym}
 use Rattle.std.specs.Int.{w128}
 use Rattle.std.proofs.lemmas.Int.{ints}
 use Rattle.rp_whole_tableau.proofs.Entries.{row_read, row_renewed_is, rows_left_out, rows_more}
