@@ -10,4 +10,5 @@ mod steps;
 mod walks;
 
 pub use levels::check_levels;
-pub use steps::check_steps;
+pub use measure::{Measure, limit};
+pub use steps::{check_steps, cost_of_taken};

@@ -44,7 +44,7 @@ fn is_as_dear(input: &Input<'_>, s: u32, t: u32, a: u32, b: u32) -> bool
 }
 
 /// How much the weights may load a strict step, or a level, over the denominator.
-pub(crate) fn limit(input: &Input<'_>, measure: Measure, s: u32, t: u32) -> u128
+pub fn limit(input: &Input<'_>, measure: Measure, s: u32, t: u32) -> u128
     requires from { s < records_of input.now.table.now }
     requires to { t < records_of input.now.table.now }
     requires strict { IsStrict (cost_of input.now.table.now) s t }

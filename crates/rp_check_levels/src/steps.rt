@@ -217,7 +217,7 @@ fn check_cost(input: &Input<'_>, taken: &[Seq<u32>], cost: u128) -> Result<(), F
 }
 
 /// What the steps cost that are taken away.
-fn cost_of_taken(input: &Input<'_>, taken: &[Seq<u32>]) -> u128
+pub fn cost_of_taken(input: &Input<'_>, taken: &[Seq<u32>]) -> u128
     requires { length taken.now ≡ records_of input.now.table.now }
     ensures { result ≡ taken_cost (records_of input.now.table.now) (cost_of input.now.table.now)
         (is_taken taken.now) }
