@@ -1,0 +1,2 @@
+pub mod LevelsByRanks
+pub mod StepsByRanks

@@ -1,0 +1,19 @@
+//! Searches for evidence on goodness of fit: levels of the observations' own, and the least cost of strict steps. Whatever
+//! is found is given only where the checker takes it.
+#![tactic(auto)]
+
+mod arrange;
+mod graph;
+mod levels;
+mod levels_by_ranks;
+mod looks;
+mod order;
+mod packing;
+mod preference;
+mod shortest;
+mod steps;
+mod steps_by_ranks;
+
+pub use levels::search_levels;
+pub use looks::Looks;
+pub use steps::search_steps;
