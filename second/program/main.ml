@@ -68,28 +68,29 @@ let theorem table_name certificate_name =
       (0, Theorem.write ~table_name ~table_text ~certificate_name ~certificate_text tb (List.map claim_of certificate.items))
   | other -> answer other
 
-(* The same of random choices, whose shares are taken as they are. *)
-let theorem_of_choices budgets_name choices_name certificate_name =
+(* The same of random choices; their shares are taken as they are, or rounded to units of 1/N. *)
+let theorem_of_choices budgets_name choices_name certificate_name per =
   let text limit name = read_file limit name in
   let budgets_text = text 4_194_304 budgets_name and choices_text = text 4_194_304 choices_name in
   let certificate_text = text 16_777_216 certificate_name in
   let goods, offers = numbers_of read_budgets budgets_name in
   let made = numbers_of (read_choices goods offers) choices_name in
-  match prepare offers made None with
+  match prepare offers made per with
   | NoChoices -> raise (Ended (4, "no choices"))
   | Refused why -> raise (Ended (4, fault_line (refusal_fault why)))
   | Prepared shares ->
       let items = certificate_of read_random certificate_name in
       match check_choices shares items with
       | Accepted _ ->
+          let rounded = Option.map (fun n -> (n, shares_of shares)) per in
           (0, Theorem.write_choices ~names:(budgets_name, choices_name, certificate_name)
-              ~texts:(budgets_text, choices_text, certificate_text) goods offers made (shares_of shares)
-              (List.map (choices_claim_of shares) items))
+              ~texts:(budgets_text, choices_text, certificate_text) goods offers made
+              (shares_of (make_shares offers made None)) rounded (List.map (choices_claim_of shares) items))
       | other -> answer other
 
 let usage =
   "usage: rp-second TABLE CERT\n       rp-second BUDGETS CHOICES CERT [--per N]\n       rp-second --theorem TABLE CERT\n"
-  ^ "       rp-second --theorem BUDGETS CHOICES CERT"
+  ^ "       rp-second --theorem BUDGETS CHOICES CERT [--per N]"
 
 (* The names of files, and N: `--per N` or `--per=N` anywhere, and after `--` all words are names. *)
 let rec words_of names per = function
@@ -112,7 +113,7 @@ let () =
         let theorems = words <> [] && List.hd words = "--theorem" in
         match words_of [] None (if theorems then List.tl words else words) with
         | Some ([ table; certificate ], None) when theorems -> theorem table certificate
-        | Some ([ budgets; choices; certificate ], None) when theorems -> theorem_of_choices budgets choices certificate
+        | Some ([ budgets; choices; certificate ], per) when theorems -> theorem_of_choices budgets choices certificate per
         | _ when theorems -> raise (Ended (2, ""))
         | Some ([ table; certificate ], None) -> answer (check_table table certificate)
         | Some ([ budgets; choices; certificate ], per) -> answer (check_random budgets choices certificate per)

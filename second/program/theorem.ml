@@ -296,12 +296,12 @@ let write ~table_name ~table_text ~certificate_name ~certificate_text tb claims 
 (* ---- random choices ---- *)
 
 (* What a claim states of populations over every ordered field, and how it follows. *)
-let stated_of_choices = function
+let stated_of_choices shares = function
   | SomePopulation ->
-      [ ("choices_rationalized", "rationalized_by_population K kinds offers shares", "it") ]
+      [ ("choices_rationalized", sprintf "rationalized_by_population K kinds offers %s" shares, "it") ]
   | NoPopulation v ->
-      [ ("choices_not_rationalizable", "not_rationalizable_by_any_population K kinds offers shares", "proj1 it");
-        ("greatest_share_is", sprintf "greatest_share K kinds offers shares %s" (fraction v), "proj2 it") ]
+      [ ("choices_not_rationalizable", sprintf "not_rationalizable_by_any_population K kinds offers %s" shares, "proj1 it");
+        ("greatest_share_is", sprintf "greatest_share K kinds offers %s %s" shares (fraction v), "proj2 it") ]
   | NothingOnChoices -> []
 
 let choices_claim_text = function
@@ -311,17 +311,36 @@ let choices_claim_text = function
 
 let text_of bytes = literal (String.init (List.length bytes) (fun i -> Char.chr (Z.to_int (List.nth bytes i))))
 
+(* The theorems on what the bytes denote and on the shares; [rounded] are N and the shares in units of 1/N. *)
+let denoted_choices offers rounded =
+  let sound = if rounded = None then "judge_choices_sound judged" else "judge_rounded_sound judged" in
+  let many = List.length offers in
+  [ ("budgets_denoted",
+     "budgets_denote budgets_file names offers /\\\n"
+     ^ "  forall names' offers', budgets_denote budgets_file names' offers' -> names' = names /\\ offers' = offers", sprintf "proj1 (proj1 (%s))" sound);
+    ("choices_denoted",
+     sprintf "choices_denote names %d choices_file records /\\\n  forall other, choices_denote names %d choices_file other -> other = records"
+       many many, sprintf "proj1 (proj2 (proj1 (%s)))" sound);
+    ("choices_are_good", "good_choices kinds offers records", sprintf "proj2 (proj2 (proj1 (%s)))" sound);
+    ("shares_observed", "observed_shares offers records shares", sprintf "proj1 (proj2 (%s))" sound) ]
+  @ match rounded with
+    | None -> []
+    | Some (n, _) ->
+        [ ("shares_rounded", sprintf "rounded_shares %s shares rounded" (number n), sprintf "proj1 (proj2 (proj2 (%s)))" sound) ]
+
 let write_choices ~names:(budgets_name, choices_name, certificate_name) ~texts:(budgets_text, choices_text, certificate_text)
-    goods offers records shares claims =
+    goods offers records shares rounded claims =
   let out = Buffer.create 65536 in
   let say form = say_to out form in
   head out (sprintf "the choices %s from the budgets %s, from the certificate %s" (comment choices_name)
-      (comment budgets_name) (comment certificate_name)) "JudgeChoices Reals";
+      (comment budgets_name) (comment certificate_name)) "Rounded Reals";
   say "(* The bytes of the three files. *)";
   say "Definition budgets_file : bytes := %s.\n" (literal budgets_text);
   say "Definition choices_file : bytes := %s.\n" (literal choices_text);
   say "Definition certificate_file : bytes := %s.\n" (literal certificate_text);
   let rows name kind one l = say "Definition %s : list %s := [\n  %s]." name kind (String.concat ";\n  " (List.map one l)) in
+  let parts name l =
+    rows name "share" (fun e -> sprintf "Share %d %s %s" e.on_budget (numbers e.on_sides) (fraction e.part)) l in
   say "(* The goods; prices and income of each budget, in scaled units; and of each record its budget, from 1, the bundle and";
   say "   how many times it was chosen. *)";
   say "Definition names : list bytes := %s." (listed text_of goods);
@@ -331,34 +350,38 @@ let write_choices ~names:(budgets_name, choices_name, certificate_name) ~texts:(
     (fun r -> sprintf "Made %s %s %s" (number r.made_on) (numbers r.made_of) (number r.made_times)) records;
   say "(* The patches in which something was chosen: the budget, from 0; on which side of each budget they lie; and their part";
   say "   of what was chosen on their budget. *)";
-  rows "shares" "share"
-    (fun e -> sprintf "Share %d %s %s" e.on_budget (numbers e.on_sides) (fraction e.part)) shares;
+  parts "shares" shares;
+  (match rounded with
+   | None -> ()
+   | Some (n, l) ->
+       say "(* The same with the parts in units of 1/%s, by largest remainders; people are claimed to make these. *)" (number n);
+       parts "rounded" l);
   say "Definition seen : observed_choices := ObservedChoices names offers records shares.\n";
   say "Definition claims : list choices_claim := [%s].\n" (String.concat ";\n  " (List.map choices_claim_text claims));
-  say "Lemma judged : judge_choices budgets_file choices_file certificate_file = Some (seen, claims).";
-  say "Proof. vm_cast_no_check (eq_refl (Some (seen, claims))). Qed.\n";
+  let judge, found =
+    match rounded with
+    | None -> ("judge_choices", "(seen, claims)")
+    | Some (n, _) -> (sprintf "judge_rounded %s" (number n), "(seen, rounded, claims)") in
+  say "Lemma judged : %s budgets_file choices_file certificate_file = Some %s." judge found;
+  say "Proof. vm_cast_no_check (eq_refl (Some %s)). Qed.\n" found;
   say "(* Budgets and choices are what the bytes denote, and they denote no other; the shares are those of the choices. *)";
-  say "Theorem budgets_denoted : budgets_denote budgets_file names offers /\\";
-  say "  forall names' offers', budgets_denote budgets_file names' offers' -> names' = names /\\ offers' = offers.";
-  say "Proof. exact (proj1 (judge_choices_sound judged)). Qed.\n";
-  say "Theorem choices_denoted : choices_denote names %d choices_file records /\\" (List.length offers);
-  say "  forall other, choices_denote names %d choices_file other -> other = records." (List.length offers);
-  say "Proof. exact (proj1 (proj2 (judge_choices_sound judged))). Qed.\n";
-  say "Theorem choices_are_good : good_choices kinds offers records.";
-  say "Proof. exact (proj1 (proj2 (proj2 (judge_choices_sound judged)))). Qed.\n";
-  say "Theorem shares_observed : observed_shares offers records shares.";
-  say "Proof. exact (proj1 (proj2 (proj2 (proj2 (judge_choices_sound judged))))). Qed.\n";
-  say "(* What they say of populations whose goods are divided as any ordered field has it. *)";
   let fresh = fresh_names () in
-  let names = ref [ "shares_observed"; "choices_are_good"; "choices_denoted"; "budgets_denoted" ] and over = ref [] in
+  let names = ref [] and over = ref [] in
+  List.iter (fun (name, statement, proof) ->
+      names := name :: !names;
+      say "Theorem %s : %s." name statement;
+      say "Proof. exact (%s). Qed.\n" proof)
+    (denoted_choices offers rounded);
+  say "(* What they say of populations whose goods are divided as any ordered field has it. *)";
+  let of_claim, shares = if rounded = None then ("judged_choice", "shares") else ("judged_rounded", "rounded") in
   List.iteri (fun k claim ->
       List.iter (fun (name, statement, proof) ->
           let name = fresh name in
           names := name :: !names;
           over := (name ^ " reals") :: !over;
           say "Theorem %s : forall K, %s." name statement;
-          say "Proof. intros K. pose (it := judged_choice judged %d%%nat eq_refl K). exact (%s). Qed.\n" k proof)
-        (stated_of_choices claim))
+          say "Proof. intros K. pose (it := %s judged %d%%nat eq_refl K). exact (%s). Qed.\n" of_claim k proof)
+        (stated_of_choices shares claim))
     claims;
   foot out !names !over;
   Buffer.contents out
