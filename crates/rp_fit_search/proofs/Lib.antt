@@ -1,2 +1,3 @@
 pub mod LevelsByRanks
 pub mod StepsByRanks
+pub mod Alone

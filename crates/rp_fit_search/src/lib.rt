@@ -1,9 +1,14 @@
-//! Searches for evidence on goodness of fit: levels of the observations' own, and the least cost of strict steps. Whatever
-//! is found is given only where the checker takes it.
+//! Searches for evidence on goodness of fit: the largest consistent sets, levels of the observations' own, and the least
+//! cost of strict steps. Whatever is found is given only where the checker takes it.
 #![tactic(auto)]
 
 mod arrange;
 mod graph;
+mod kept;
+mod kept_alone;
+mod kept_groups;
+mod kept_set;
+mod kinds;
 mod levels;
 mod levels_by_ranks;
 mod looks;
@@ -14,6 +19,7 @@ mod shortest;
 mod steps;
 mod steps_by_ranks;
 
+pub use kept::search_kept;
 pub use levels::search_levels;
 pub use looks::Looks;
 pub use steps::search_steps;
