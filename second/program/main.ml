@@ -88,9 +88,39 @@ let theorem_of_choices budgets_name choices_name certificate_name per =
               (shares_of (make_shares offers made None)) rounded (List.map (choices_claim_of shares) items))
       | other -> answer other
 
+(* The pairs of a table as theorems, and its money pump from what `rp pump` writes of it. *)
+let theorem_of_pairs table_name =
+  let table_text = read_file 4_194_304 table_name in
+  ignore (numbers_of read_table table_name);
+  match judge_pairs (bytes_of table_text) with
+  | Some ((tb, pairs), counts) -> (0, Theorem.write_pairs ~table_name ~table_text tb pairs counts)
+  | None -> raise (Ended (4, "no table"))
+
+let pump_of name =
+  let lines = List.map (String.split_on_char ' ') (String.split_on_char '\n' (read_file 4_194_304 name)) in
+  let after word = List.find_map (function w :: rest when w = word -> Some rest | _ -> None) lines in
+  try
+    match after "pump", after "cycle", after "values" with
+    | Some [ index ], Some cycle, Some values ->
+        let num, den = match String.split_on_char '/' index with [ a ] -> (a, "1") | [ a; b ] -> (a, b) | _ -> failwith "" in
+        let num = Z.of_string num and den = Z.of_string den in
+        { ratio_num = Z.sub den num; ratio_den = den; ratio_walk = List.map (fun s -> int_of_string s - 1) cycle;
+          ratio_values = List.map Z.of_string values }
+    | _ -> failwith ""
+  with Failure _ | Invalid_argument _ -> raise (Ended (4, name ^ ": NoPump"))
+
+let theorem_of_pump table_name result_name =
+  let table_text = read_file 4_194_304 table_name in
+  ignore (numbers_of read_table table_name);
+  let evidence = pump_of result_name in
+  match judge_pump (bytes_of table_text) evidence with
+  | Some (tb, index) -> (0, Theorem.write_pump ~table_name ~table_text tb evidence index)
+  | None -> (1, "rejected pump\n")
+
 let usage =
   "usage: rp-second TABLE CERT\n       rp-second BUDGETS CHOICES CERT [--per N]\n       rp-second --theorem TABLE CERT\n"
-  ^ "       rp-second --theorem BUDGETS CHOICES CERT [--per N]"
+  ^ "       rp-second --theorem BUDGETS CHOICES CERT [--per N]\n       rp-second --theorem --pairs TABLE\n"
+  ^ "       rp-second --theorem --pump TABLE RESULT"
 
 (* The names of files, and N: `--per N` or `--per=N` anywhere, and after `--` all words are names. *)
 let rec words_of names per = function
@@ -105,20 +135,24 @@ and with_per names per n rest =
   let k = if plain then Z.of_string n else Z.zero in
   if per = None && Z.sign k > 0 && Z.leq k (Z.of_int 1_000_000_000) then words_of names (Some k) rest else None
 
+let answer_to words =
+  match words with
+  | [ "--theorem"; "--pairs"; table ] when table <> "" -> theorem_of_pairs table
+  | [ "--theorem"; "--pump"; table; result ] when table <> "" && result <> "" -> theorem_of_pump table result
+  | _ ->
+      let theorems = words <> [] && List.hd words = "--theorem" in
+      match words_of [] None (if theorems then List.tl words else words) with
+      | Some ([ table; certificate ], None) when theorems -> theorem table certificate
+      | Some ([ budgets; choices; certificate ], per) when theorems -> theorem_of_choices budgets choices certificate per
+      | _ when theorems -> raise (Ended (2, ""))
+      | Some ([ table; certificate ], None) -> answer (check_table table certificate)
+      | Some ([ budgets; choices; certificate ], per) -> answer (check_random budgets choices certificate per)
+      | _ -> raise (Ended (2, ""))
+
 let () =
   let ended, out, line =
     try
-      let ended, out =
-        let words = List.tl (Array.to_list Sys.argv) in
-        let theorems = words <> [] && List.hd words = "--theorem" in
-        match words_of [] None (if theorems then List.tl words else words) with
-        | Some ([ table; certificate ], None) when theorems -> theorem table certificate
-        | Some ([ budgets; choices; certificate ], per) when theorems -> theorem_of_choices budgets choices certificate per
-        | _ when theorems -> raise (Ended (2, ""))
-        | Some ([ table; certificate ], None) -> answer (check_table table certificate)
-        | Some ([ budgets; choices; certificate ], per) -> answer (check_random budgets choices certificate per)
-        | _ -> raise (Ended (2, ""))
-      in
+      let ended, out = answer_to (List.tl (Array.to_list Sys.argv)) in
       (ended, out, "")
     with
     | Ended (2, _) -> (2, "", usage)

@@ -251,6 +251,15 @@ let foot out names over =
     say "Print Assumptions with_real_quantities."
   end
 
+(* The table that the bytes denote. *)
+let say_table out tb =
+  let say form = say_to out form in
+  say "(* Prices, quantities and levels of the observations, in scaled units. *)";
+  let rows name l = say "Definition %s : list (list Z) := [\n  %s]." name (String.concat ";\n  " (List.map numbers l)) in
+  rows "observed_prices" tb.prices;
+  rows "observed_quantities" tb.quantities;
+  say "Definition observed : table := Table observed_prices observed_quantities %s.\n" (numbers tb.levels)
+
 let write ~table_name ~table_text ~certificate_name ~certificate_text tb claims =
   let out = Buffer.create 65536 in
   let say form = say_to out form in
@@ -259,11 +268,7 @@ let write ~table_name ~table_text ~certificate_name ~certificate_text tb claims 
   say "(* The bytes of both files. *)";
   say "Definition table_file : bytes := %s.\n" (literal table_text);
   say "Definition certificate_file : bytes := %s.\n" (literal certificate_text);
-  say "(* Prices, quantities and levels of the observations, in scaled units. *)";
-  let rows name l = say "Definition %s : list (list Z) := [\n  %s]." name (String.concat ";\n  " (List.map numbers l)) in
-  rows "observed_prices" tb.prices;
-  rows "observed_quantities" tb.quantities;
-  say "Definition observed : table := Table observed_prices observed_quantities %s.\n" (numbers tb.levels);
+  say_table out tb;
   say "Definition claims : list claim := [%s].\n" (String.concat ";\n  " (List.map claim_text claims));
   say "Lemma judged : judge table_file certificate_file = Some (observed, claims).";
   say "Proof. vm_cast_no_check (eq_refl (Some (observed, claims))). Qed.\n";
@@ -292,6 +297,69 @@ let write ~table_name ~table_text ~certificate_name ~certificate_text tb claims 
     claims;
   foot out !names !over;
   Buffer.contents out
+
+(* ---- a table without a certificate ---- *)
+
+let whole_numbers l = if l = [] then "(@nil nat)" else listed string_of_int l ^ "%nat"
+
+(* A file about a table alone: a definition of what was found, how it is judged, and theorems. *)
+let write_of_table ~what ~table_text tb definition judged stated =
+  let out = Buffer.create 65536 in
+  let say form = say_to out form in
+  head out what "JudgeTable FitRatios";
+  say "(* The bytes of the table. *)";
+  say "Definition table_file : bytes := %s.\n" (literal table_text);
+  say_table out tb;
+  say "%s\n" definition;
+  let call, found = judged in
+  say "Lemma judged : %s = Some %s." call found;
+  say "Proof. vm_cast_no_check (eq_refl (Some %s)). Qed.\n" found;
+  let names = ref [] in
+  List.iter (fun (name, statement, proof) ->
+      names := name :: !names;
+      say "Theorem %s : %s." name statement;
+      say "Proof. exact (%s). Qed.\n" proof)
+    stated;
+  foot out !names [];
+  Buffer.contents out
+
+let table_denoted sound =
+  ("table_denoted", "denotes table_file observed /\\ forall other, denotes table_file other -> other = observed",
+   sprintf "proj1 (%s judged)" sound)
+
+(* The pairs of observations that contradict each other, and how many there are by each axiom. *)
+let write_pairs ~table_name ~table_text tb pairs counts =
+  let related = "weak observed (by_own observed) s t /\\ strict observed (by_own observed) t s" in
+  let within = "(s < size observed)%nat /\\ (t < size observed)%nat" in
+  let all = "proj2 (judge_pairs_sound judged)" in
+  let counted = [ ("garp_pairs_are", "pairs_in", "garp_pair"); ("garp_observations_are", "observations_in", "garp_pair");
+                  ("wgarp_pairs_are", "pairs_in", "wgarp_pair"); ("warp_pairs_are", "pairs_in", "warp_pair");
+                  ("sarp_pairs_are", "pairs_in", "sarp_pair") ] in
+  let rec sides k l = if k = 0 then l else sprintf "proj2 (%s)" (sides (k - 1) l) in
+  let count k (name, how, of_) =
+    let from = sides k "judge_counts_sound judged" in
+    (name, sprintf "%s observed (%s observed) %d" how of_ (List.nth counts k), if k = 4 then from else sprintf "proj1 (%s)" from) in
+  write_of_table ~what:(sprintf "the pairs of the table %s" (comment table_name)) ~table_text tb
+    (sprintf "(* Pairs of observations, counted from 0. *)\nDefinition pairs : list (nat * nat) := %s%%nat."
+       ("[" ^ String.concat "; " (List.map (fun (s, t) -> sprintf "(%d, %d)" s t) pairs) ^ "]"))
+    ("judge_pairs table_file", sprintf "(observed, pairs, %s)" (whole_numbers counts))
+    ([ table_denoted "judge_pairs_sound";
+       ("contradicting_pairs", sprintf "forall s t, In (s, t) pairs <-> %s /\\\n  %s"
+          within related, all) ]
+     @ (if pairs = [] then
+          [ ("no_two_contradict", sprintf "forall s t, ~ (%s /\\\n  %s)" within related, sprintf "fun s t => proj2 (%s s t)" all) ]
+        else [])
+     @ if counts = [] then [] else List.mapi count counted)
+
+(* The money pump index, from a cycle that has it and values that bound all others. *)
+let write_pump ~table_name ~table_text tb e index =
+  write_of_table ~what:(sprintf "the money pump of the table %s" (comment table_name)) ~table_text tb
+    (sprintf "(* The part of a cycle's expenditure that the next bundles cost; the cycle, from 0; values of the observations. *)\n"
+     ^ sprintf "Definition evidence : ratio_evidence := RatioEvidence %s %s %s\n  %s." (number e.ratio_num) (number e.ratio_den)
+         (whole_numbers e.ratio_walk) (folded "    " (List.map number e.ratio_values)))
+    ("judge_pump table_file evidence", sprintf "(observed, %s)" (fraction index))
+    [ table_denoted "judge_pump_sound";
+      ("money_pump_is", sprintf "pump_index observed %s" (fraction index), "proj2 (proj2 (judge_pump_sound judged))") ]
 
 (* ---- random choices ---- *)
 
