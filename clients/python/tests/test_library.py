@@ -13,7 +13,7 @@ import unittest
 import warnings
 
 import revealed
-from revealed import NoProgram, Refused, library, program
+from revealed import NoProgram, Refused, folders, library, program
 
 LIBRARY = os.environ.get("RP_TEST_LIBRARY", "")
 P, Q = [[1, 2], [2, 1]], [[1, 2], [2, 1]]
@@ -169,7 +169,12 @@ class InARelease(unittest.TestCase):
         env = {name: value for name, value in os.environ.items() if name not in ("RP_EXEC", "RP_LIBRARY")}
         with tempfile.TemporaryDirectory() as folder:
             top = pathlib.Path(folder) / "rp-0-x86_64-linux"
-            shutil.copytree(own, top / "clients/python/revealed", ignore=shutil.ignore_patterns("__pycache__", "*.so", "rp"))
+            parts = {own: "clients/python/revealed"}
+            for name, place in folders.PARTS.items():
+                if not (own / name).is_dir():
+                    parts[pathlib.Path(folders.TOP, place, name)] = f"{place}/{name}"
+            for part, place in parts.items():
+                shutil.copytree(part, top / place, ignore=shutil.ignore_patterns("__pycache__", "*.so", "rp"))
             for name in ("rp", "lib/librp.so"):
                 (top / name).parent.mkdir(exist_ok=True)
                 (top / name).write_bytes(b"#!/bin/sh\n")
