@@ -117,6 +117,11 @@ def is_left_by_ci():
     return True
 
 
+def library_is_at_hand():
+    """Returns whether the C library can be made without proving its crates anew."""
+    return os.path.exists(f"{CRATE}/out/librp_c.a") or is_left_by_ci()
+
+
 def toolchain(room):
     """Makes a folder of the toolchain whose tools keep the LLVM module, and returns it with where that is kept."""
     real, kept, folder = f"{kit()}/toolchain", f"{room}/module.bc", f"{room}/toolchain"
