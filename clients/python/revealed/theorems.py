@@ -10,7 +10,9 @@ from typing import Any
 from . import commands, program, worker
 from .commands import BUDGETS, CERTIFICATE, CHOICES, TABLE
 from .faults import BadData, Failed, NoProgram
+from .measures import MoneyPump
 
+RESULT = "pump.txt"
 VARIABLE = "RP_SECOND"
 NAME = "rp-second.exe" if sys.platform == "win32" else "rp-second"
 INSTALL = (
@@ -19,33 +21,31 @@ INSTALL = (
 )
 
 
-def theorem(data: Any, certificate: Any = None, *, to: Any = None, exe: Any = None) -> str:
+def theorem(
+    data: Any, certificate: Any = None, *, per: Any = None, pairs: bool = False, pump: bool = False, to: Any = None, exe: Any = None
+) -> str:
     """Returns a file of Coq that proves the verdicts on a table, or on choices from budgets. `to` names a file to write.
 
     `data` is a result of `analyse`, `demand_bounds`, `welfare_bounds` or `random_utility`, which has its own certificate. Or it is a frame,
     or prices and quantities in a tuple, which are analysed first. Or it is what `check` takes, with a certificate.
 
+    `per` rounds the shares of choices to this number of units, as in `random_utility`; a result of `random_utility` has its own.
+    `pairs=True` proves which observations of a table contradict each other, and how many by each axiom. It needs no certificate.
+    `pump=True` proves the maximum money pump index of a table. A result of `money_pump` is taken as it is.
+
     Coq checks the file by `coqc -Q second/theories Second Paper.v`, so you need not trust this package. Compare the text of the table in
-    the file with your data. Theorems on rounded shares (`per`) are not written.
+    the file with your data.
 
     References:
         The Coq Development Team (2022). The Coq Proof Assistant, version 8.16.
         Varian, H. R. (1982). The Nonparametric Approach to Demand Analysis. Econometrica 50, 945-973.
     """
     path = find(exe)
-    answer = data
-    if certificate is None and not hasattr(data, "certificate"):
-        answer = commands.analyse(*data) if isinstance(data, tuple) else commands.analyse(data)
-    files, per, _ = commands._files(answer if certificate is None else data, None)
-    if TABLE not in files and BUDGETS not in files:
-        raise BadData("theorems are written of tables and of choices from budgets")
-    if per is not None:
-        raise BadData("theorems on rounded shares are not written: leave per out")
-    files[CERTIFICATE] = commands.certificate_bytes(answer if certificate is None else certificate)
-    names = [TABLE] if TABLE in files else [BUDGETS, CHOICES]
-    status, out, said = worker.run(path, ["--theorem", *names, CERTIFICATE], files)
+    words, files = _of_pairs(data, certificate, per, pump) if pairs else _of_answer(data, certificate, per, pump)
+    status, out, said = worker.run(path, ["--theorem", *words], files)
     if status == 1:
-        raise BadData(f"the certificate proves nothing of these data, and has no theorem: {out.decode().strip()}")
+        what = "certificate proves" if CERTIFICATE in files else "cycle and the values of the money pump prove"
+        raise BadData(f"the {what} nothing of these data, and there is no theorem: {out.decode().strip()}")
     if status != 0:
         raise Failed(status, said.decode(errors="replace").strip())
     text = out.decode()
@@ -53,6 +53,41 @@ def theorem(data: Any, certificate: Any = None, *, to: Any = None, exe: Any = No
         with open(to, "w", encoding="ascii", newline="\n") as it:
             it.write(text)
     return text
+
+
+def _of_pairs(data: Any, certificate: Any, per: Any, pump: bool) -> tuple[list[str], dict[str, bytes]]:
+    """Returns the words and the files of the theorems on the pairs of a table."""
+    if certificate is not None or per is not None or pump:
+        raise BadData("theorems on pairs need a table alone: leave certificate, per and pump out")
+    files, _, _ = commands._files(data, None)
+    return ["--pairs", TABLE], _table_alone(files)
+
+
+def _of_answer(data: Any, certificate: Any, per: Any, pump: bool) -> tuple[list[str], dict[str, bytes]]:
+    """Returns the words and the files of the theorems on an answer, or on data with a certificate."""
+    answer = data if certificate is None else certificate
+    if certificate is None and not hasattr(data, "certificate") and not isinstance(data, MoneyPump):
+        ask = commands.pump if pump else commands.analyse
+        answer = ask(*data) if isinstance(data, tuple) else ask(data)
+    files, per, _ = commands._files(answer if certificate is None else data, per)
+    if pump or isinstance(answer, MoneyPump):
+        if per is not None:
+            raise BadData("theorems on the money pump have no rounded shares: leave per out")
+        return ["--pump", TABLE, RESULT], {**_table_alone(files), RESULT: commands.certificate_bytes(answer)}
+    if TABLE not in files and BUDGETS not in files:
+        raise BadData("theorems are written of tables and of choices from budgets")
+    if per is not None and TABLE in files:
+        raise BadData("per is for choices from budgets, and not for a table: leave per out")
+    files[CERTIFICATE] = commands.certificate_bytes(answer)
+    names = [TABLE] if TABLE in files else [BUDGETS, CHOICES]
+    return [*names, CERTIFICATE, *commands._units(per)], files
+
+
+def _table_alone(files: dict[str, bytes]) -> dict[str, bytes]:
+    """Returns the file of a table, and refuses other data."""
+    if TABLE not in files:
+        raise BadData("theorems on pairs and on the money pump are written of a table")
+    return files
 
 
 def find(exe: Any = None) -> str:

@@ -22,8 +22,9 @@ BUDGETS, CHOICES = (
     "budget,q_a,q_b,n\n1,2,1,1\n1,0,2,3\n2,1,2,2\n2,2,0,2\n",
 )
 MIXED = '{"items":[{"den":"1","item":"random","parts":[[[1,4],"1"],[[2,3],"2"]],"total":"4","weights":["1","0","1","0"]}],"kind":"random","version":1}\n'
+PUMP = b"observations 2 goods 2 places 0 0\npump 1/5\ncycle 1 2 1\nvalues 0 0\n"
 # Stands for the program: it writes its words and the files that it is given.
-STANDS = '#!/bin/sh\n[ "$1" = --theorem ] || exit 2\necho "(* $* *)"\nshift\ncat "$@"\n'
+STANDS = '#!/bin/sh\n[ "$1" = --theorem ] || exit 2\necho "(* $* *)"\nshift\nfor it; do [ ! -f "$it" ] || cat "$it"; done\n'
 
 
 class Without(unittest.TestCase):
@@ -64,6 +65,28 @@ class Given(unittest.TestCase):
         verdict = revealed.Verdict(own, revealed.Certificate(EVIDENCE.encode()))
         self.assertTrue(revealed.theorem(verdict, exe=self.program).endswith(EVIDENCE))
 
+    def test_rounded_shares(self):
+        heads = "(* --theorem budgets.csv choices.csv certificate.json --per 5 *)\n"
+        text = revealed.theorem((BUDGETS, CHOICES), MIXED, per=5, exe=self.program)
+        self.assertTrue(text.startswith(heads))
+        with self.assertRaisesRegex(BadData, "leave per out"):
+            revealed.theorem(TABLE, CERTIFICATE, per=5, exe=self.program)
+
+    def test_pairs_of_a_table(self):
+        text = revealed.theorem(TABLE, pairs=True, exe=self.program)
+        self.assertEqual(text, "(* --theorem --pairs table.csv *)\n" + TABLE)
+        with self.assertRaisesRegex(BadData, "leave certificate, per and pump out"):
+            revealed.theorem(TABLE, CERTIFICATE, pairs=True, exe=self.program)
+        with self.assertRaisesRegex(BadData, "written of a table"):
+            revealed.theorem((BUDGETS, CHOICES), pairs=True, exe=self.program)
+
+    def test_a_money_pump(self):
+        own = revealed.table([[1, 2], [2, 1]], [[1, 2], [2, 1]])
+        answer = revealed.MoneyPump(own, PUMP)
+        expected = "(* --theorem --pump table.csv pump.txt *)\n" + own.csv().decode() + PUMP.decode()
+        self.assertEqual(revealed.theorem(answer, exe=self.program), expected)
+        self.assertEqual(revealed.theorem(own, PUMP, pump=True, exe=self.program), expected)
+
     def test_what_is_rejected_has_no_theorem(self):
         self.program.write_text(
             "#!/bin/sh\necho rejected item 1 NotClosed place 0\nexit 1\n",
@@ -82,6 +105,16 @@ class Written(unittest.TestCase):
         text = revealed.theorem(TABLE, CERTIFICATE)
         self.assertIn("Theorem garp_violated : ~ garp observed (by_own observed).", text)
         self.assertIn('  "1,1,2,2";\n', text)
+
+    def test_theorems_of_pairs_and_the_money_pump(self):
+        self.assertIn(
+            "Theorem garp_pairs_are : pairs_in observed (garp_pair observed) 2.",
+            revealed.theorem(TABLE, pairs=True),
+        )
+        self.assertIn(
+            "Theorem money_pump_is : pump_index observed (1 # 5).",
+            revealed.theorem(TABLE, PUMP, pump=True),
+        )
 
     def test_theorems_of_choices(self):
         text = revealed.theorem((BUDGETS, CHOICES), MIXED)

@@ -1,22 +1,53 @@
 # A verdict as a theorem: the file of Coq that the program `rp-second` of the second prover writes.
 
-rp_theorem <- function(data, certificate = NULL, file = NULL, levels = NULL, exe = NULL) {
+rp_theorem <- function(data, certificate = NULL, file = NULL, levels = NULL, exe = NULL, per = NULL, pairs = FALSE,
+                       pump = FALSE) {
   program <- second_program(exe)
-  is_answer <- inherits(data, c("rp_test", "rp_demand", "rp_welfare", "rp_random"))
-  if (is.null(certificate) && !is_answer) {
-    data <- if (is_sides(data)) rp_test(data[[1]], data[[2]], levels = levels) else rp_test(data, levels = levels)
-    levels <- NULL
+  asked <- (if (pairs) asked_of_pairs else asked_of_answer)(data, certificate, per, levels, pump)
+  ran <- by_program(c("--theorem", asked$words), list(asked$files), program)[[1]]
+  if (identical(ran$status, 1L)) {
+    of_certificate <- "certificate.json" %in% asked$words
+    what <- if (of_certificate) "certificate proves" else "cycle and the values of the money pump prove"
+    bad_data("the ", what, " nothing of these data, and there is no theorem: ", trimws(ran$out))
   }
-  of <- files_of(data, NULL, levels)
-  if (!is.null(of$per)) bad_data("theorems on rounded shares are not written: leave per out")
-  words <- c("--theorem", names(of$files), "certificate.json")
-  of$files$certificate.json <- certificate_bytes(if (is.null(certificate)) data else certificate)
-  ran <- by_program(words, list(of$files), program)[[1]]
-  if (identical(ran$status, 1L)) bad_data("the certificate proves nothing of these data, and has no theorem: ", trimws(ran$out))
   if (!identical(ran$status, 0L)) stop(failed(ran$status, ran$said))
   text <- strsplit(ran$out, "\n", fixed = TRUE)[[1]]
   if (!is.null(file)) write_file(text, file)
   invisible(text)
+}
+
+# Returns the words and the files of the theorems on the pairs of a table.
+asked_of_pairs <- function(data, certificate, per, levels, pump) {
+  if (!is.null(certificate) || !is.null(per) || pump) {
+    bad_data("theorems on pairs need a table alone: leave certificate, per and pump out")
+  }
+  if (inherits(data, c("rp_pairs", "rp_pump"))) data <- data$table
+  list(words = c("--pairs", "table.csv"), files = table_alone(files_of(data, NULL, levels)))
+}
+
+# Returns the words and the files of the theorems on an answer, or on data with a certificate.
+asked_of_answer <- function(data, certificate, per, levels, pump) {
+  pump <- pump || inherits(data, "rp_pump") || inherits(certificate, "rp_pump")
+  if (is.null(certificate) && !inherits(data, c("rp_test", "rp_demand", "rp_welfare", "rp_random", "rp_pump"))) {
+    test <- if (pump) function(...) rp_pump(...) else function(...) rp_test(..., levels = levels)
+    data <- if (is_sides(data)) test(data[[1]], data[[2]]) else test(data)
+    levels <- NULL
+  }
+  answer <- if (is.null(certificate)) data else certificate
+  of <- files_of(if (inherits(data, "rp_pump")) data$table else data, per, levels)
+  if (pump) {
+    is_answer <- inherits(answer, "rp_pump")
+    result <- if (is_answer) charToRaw(paste0(answer$report, "\n", collapse = "")) else certificate_bytes(answer)
+    return(list(words = c("--pump", "table.csv", "pump.txt"), files = c(table_alone(of), list(pump.txt = result))))
+  }
+  words <- c(names(of$files), "certificate.json", units_of(of$per))
+  list(words = words, files = c(of$files, list(certificate.json = certificate_bytes(answer))))
+}
+
+# Returns the file of a table, and refuses other data.
+table_alone <- function(of) {
+  if (of$command != "check") bad_data("theorems on pairs and on the money pump are written of a table")
+  of$files
 }
 
 # Whether data are the two sides of a table, prices and quantities.

@@ -6,22 +6,28 @@ Writes a file of Coq that proves the verdicts on a table, or on choices from bud
 trust this package or the program.
 }
 \usage{
-rp_theorem(data, certificate = NULL, file = NULL, levels = NULL, exe = NULL)
+rp_theorem(data, certificate = NULL, file = NULL, levels = NULL, exe = NULL,
+  per = NULL, pairs = FALSE, pump = FALSE)
 }
 \arguments{
 \item{data}{a result of \code{\link{rp_test}}, \code{\link{rp_demand}}, \code{\link{rp_welfare}} or \code{\link{rp_random}}, which has
-its own certificate. Or a data frame, or a list of prices and quantities, which \code{rp_test} analyses. Or, with a certificate, data
+its own certificate. Or a result of \code{\link{rp_money_pump}}. Or a data frame, or a list of prices and quantities, which \code{rp_test} analyses. Or, with a certificate, data
 as for \code{\link{rp_check}}.}
 \item{certificate}{a result, its JSON as a text, or the name of its file.}
 \item{file}{the name of the file to write, such as \code{"Paper.v"}. \code{NULL} writes none.}
 \item{levels}{efficiency levels, as for \code{\link{rp_test}}.}
 \item{exe}{the program \code{rp-second}. By default the variable \code{RP_SECOND} names it, or it is on the path.}
+\item{per}{the number of units that the shares of choices are rounded to, as for \code{\link{rp_random}}. A result of
+\code{rp_random} has its own.}
+\item{pairs}{\code{TRUE} proves which observations of a table contradict each other, and how many by each axiom. It needs no
+certificate.}
+\item{pump}{\code{TRUE} proves the maximum money pump index of a table.}
 }
 \details{
 \code{rp-second} is built from the folder \file{second/} of the source. On Debian 12, install the packages \code{coq},
 \code{ocaml-findlib} and \code{libzarith-ocaml-dev}, and run \code{make program} there. Then
 \code{coqc -Q second/theories Second Paper.v} checks the theorems. Compare the text of the table in \file{Paper.v} with
-your data. Theorems on rounded shares are not written.
+your data.
 }
 \value{
 The lines of the file, invisibly. A certificate that is rejected is an error, because it has no theorem.
