@@ -117,10 +117,50 @@ let theorem_of_pump table_name result_name =
   | Some (tb, index) -> (0, Theorem.write_pump ~table_name ~table_text tb evidence index)
   | None -> (1, "rejected pump\n")
 
+(* The tests of producers as theorems, and bounds of cost from what `rp cost` writes of them. *)
+let questions_of name =
+  let lines = List.map (String.split_on_char ' ') (String.split_on_char '\n' (read_file 4_194_304 name)) in
+  let whole = Z.of_string in
+  let rec until word before = function
+    | w :: rest when w = word -> (List.rev before, rest)
+    | w :: rest -> until word (w :: before) rest
+    | [] -> failwith "" in
+  let entry word = match String.split_on_char ':' word with [ j; v ] -> (whole j, whole v) | _ -> failwith "" in
+  let pair value = function
+    | "lower" :: "x" :: rest ->
+        let x, rest = until "y" [] rest in
+        let y, rest = until "over" [] rest in
+        let num, under = match String.split_on_char '/' value with [ a ] -> (a, "1") | [ a; b ] -> (a, b) | _ -> failwith "" in
+        let den = match rest with [ den ] -> whole den | _ -> failwith "" in
+        Shown (den, whole num, whole under, List.map whole x, if y = [ "none" ] then [] else List.map entry y)
+    | _ -> failwith "" in
+  let rec go = function
+    | ("bounds" :: "prices" :: line) :: rest ->
+        let prices, line = until "output" [] line in
+        let output, line = match line with output :: line -> (whole output, line) | [] -> failwith "" in
+        (match line, rest with
+         | "lower" :: "withheld" :: _, _ -> (((List.map whole prices, output), Withheld)) :: go rest
+         | "lower" :: value :: _, next :: rest -> ((List.map whole prices, output), pair value next) :: go rest
+         | _ -> go rest)
+    | _ :: rest -> go rest
+    | [] -> [] in
+  try go lines with Failure _ | Invalid_argument _ -> raise (Ended (4, name ^ ": NoCost"))
+
+let theorem_of_cost production_name result_name =
+  let production_text = read_file 4_194_304 production_name in
+  let questions = match result_name with Some name -> questions_of name | None -> [] in
+  let judged questions = judge_production (bytes_of production_text) questions in
+  match judged questions, judged [] with
+  | Some (plans, found), _ ->
+      let questions = if found.cost_pair = None then questions else [] in
+      (0, Theorem.write_production ~production_name ~production_text plans questions found)
+  | None, Some _ -> (1, "rejected cost\n")
+  | None, None -> raise (Ended (4, production_name ^ ": no production"))
+
 let usage =
   "usage: rp-second TABLE CERT\n       rp-second BUDGETS CHOICES CERT [--per N]\n       rp-second --theorem TABLE CERT\n"
   ^ "       rp-second --theorem BUDGETS CHOICES CERT [--per N]\n       rp-second --theorem --pairs TABLE\n"
-  ^ "       rp-second --theorem --pump TABLE RESULT"
+  ^ "       rp-second --theorem --pump TABLE RESULT\n       rp-second --theorem --cost TECH [RESULT]"
 
 (* The names of files, and N: `--per N` or `--per=N` anywhere, and after `--` all words are names. *)
 let rec words_of names per = function
@@ -138,6 +178,9 @@ and with_per names per n rest =
 let answer_to words =
   match words with
   | [ "--theorem"; "--pairs"; table ] when table <> "" -> theorem_of_pairs table
+  | [ "--theorem"; "--cost"; production ] when production <> "" -> theorem_of_cost production None
+  | [ "--theorem"; "--cost"; production; result ] when production <> "" && result <> "" ->
+      theorem_of_cost production (Some result)
   | [ "--theorem"; "--pump"; table; result ] when table <> "" && result <> "" -> theorem_of_pump table result
   | _ ->
       let theorems = words <> [] && List.hd words = "--theorem" in

@@ -361,6 +361,96 @@ let write_pump ~table_name ~table_text tb e index =
     [ table_denoted "judge_pump_sound";
       ("money_pump_is", sprintf "pump_index observed %s" (fraction index), "proj2 (proj2 (judge_pump_sound judged))") ]
 
+(* ---- producers ---- *)
+
+let bound_text = function
+  | Shown (den, num, under, x, y) ->
+      sprintf "Shown %s %s %s %s %s" (number den) (number num) (number under) (numbers x)
+        (listed (fun (j, v) -> sprintf "(%s, %s)" (number j) (number v)) y)
+  | Withheld -> "Withheld"
+let place = function Some (t, s) -> sprintf "(Some (%d, %d)%%nat)" t s | None -> "None"
+
+(* What the tests of producers say, and bounds on what an output costs; each with whether it is over every field. *)
+let stated_of_producers plans questions found =
+  let tb = "(used observed) (made_by observed)" and with_prices = "(used observed) (made_by observed) (sold_at observed)" in
+  let judged = "cost_judged judged" in
+  let priced = match plans with r :: _ -> r.plan_sold <> [] | [] -> false in
+  let profit = "profit_judged judged eq_refl" in
+  let axiom holds broken = function None -> holds | Some (t, s) -> broken t s in
+  axiom
+    [ ("cost_axiom_holds", None, (sprintf "cost_axiom %s" tb, sprintf "proj1 (%s)" judged));
+      ("some_technology_over", Some (), (sprintf "some_technology K %s" tb, sprintf "proj2 (%s) K" judged)) ]
+    (fun t s ->
+      [ ("cheaper_for_as_much", None,
+         (sprintf "made_by observed %d <= made_by observed %d /\\ cost (used observed) %d %d < cost (used observed) %d %d" t s t s t t,
+          sprintf "conj (proj1 (%s)) (proj1 (proj2 (%s)))" judged judged));
+        ("cost_axiom_broken", None, (sprintf "~ cost_axiom %s" tb, sprintf "proj1 (proj2 (proj2 (%s)))" judged));
+        ("no_technology_over", Some (), (sprintf "no_technology K %s" tb, sprintf "proj2 (proj2 (proj2 (%s))) K" judged)) ])
+    found.cost_pair
+  @ (if not priced then [] else
+       axiom
+         [ ("profit_axiom_holds", None, (sprintf "profit_axiom %s" with_prices, sprintf "proj1 (%s)" profit));
+           ("some_production_set_over", Some (), (sprintf "some_production_set K %s" with_prices, sprintf "proj2 (%s) K" profit)) ]
+         (fun t s ->
+           [ ("more_profit", None,
+              (sprintf "profit %s %d %d < profit %s %d %d" with_prices t t with_prices t s, sprintf "proj1 (%s)" profit));
+             ("profit_axiom_broken", None, (sprintf "~ profit_axiom %s" with_prices, sprintf "proj1 (proj2 (%s))" profit));
+             ("no_production_set_over", Some (),
+              (sprintf "no_production_set K %s" with_prices, sprintf "proj2 (proj2 (%s)) K" profit)) ])
+         found.profit_pair)
+  @ List.concat
+      (List.mapi (fun k (((prices, out), _), (lower, upper)) ->
+           let of_answer = sprintf "(costs_judged judged eq_refl %d%%nat eq_refl eq_refl K)" k in
+           let at = sprintf "%s %s" (numbers prices) (number out) in
+           (match lower with
+            | Some v -> [ ("lower_cost_is", Some (), (sprintf "lower_cost K %s %s %s" tb at (fraction v), "proj1 " ^ of_answer)) ]
+            | None -> [])
+           @ [ (match upper with
+                | Some u ->
+                    ("upper_cost_is", Some (),
+                     (sprintf "upper_cost K %s %s %s" tb at (fraction { qnum = u; qden = Z.one }), "proj2 " ^ of_answer))
+                | None -> ("no_upper_cost_is", Some (), (sprintf "no_upper_cost K %s %s" tb (number out), "proj2 " ^ of_answer))) ])
+         (List.combine questions found.answers))
+
+let write_production ~production_name ~production_text plans questions found =
+  let out = Buffer.create 65536 in
+  let say form = say_to out form in
+  head out (sprintf "the production %s" (comment production_name)) "JudgeProducers LinearPrograms Reals";
+  say "(* The bytes of the file. *)";
+  say "Definition production_file : bytes := %s.\n" (literal production_text);
+  say "(* Of each observation the prices of the inputs, the inputs, the output and its price or none, in scaled units. *)";
+  say "Definition observed : list plan := [\n  %s].\n" (String.concat ";\n  "
+      (List.map (fun r -> sprintf "Plan %s %s %s %s" (numbers r.plan_prices) (numbers r.plan_inputs) (number r.plan_output)
+           (numbers r.plan_sold)) plans));
+  say "(* New input prices, outputs, and evidence of what these cost at least. *)";
+  say "Definition questions : list question := [%s].\n" (String.concat ";\n  "
+      (List.map (fun ((prices, out), b) -> sprintf "(%s, %s, %s)" (numbers prices) (number out) (bound_text b)) questions));
+  let one = function Some q -> sprintf "Some %s" (fraction q) | None -> "None" in
+  let whole = function Some u -> sprintf "Some %s" (number u) | None -> "None" in
+  say "Definition answered : found := Found %s %s [%s].\n" (place found.cost_pair) (place found.profit_pair)
+    (String.concat ";\n  " (List.map (fun (l, u) -> sprintf "(%s, %s)" (one l) (whole u)) found.answers));
+  say "Lemma judged : judge_production production_file questions = Some (observed, answered).";
+  say "Proof. vm_cast_no_check (eq_refl (Some (observed, answered))). Qed.\n";
+  say "(* Production is what the bytes denote, and they denote no other. *)";
+  say "Theorem production_is : production_denotes production_file observed /\\";
+  say "  forall other, production_denotes production_file other -> other = observed.";
+  say "Proof. exact (production_denoted judged). Qed.\n";
+  let fresh = fresh_names () and names = ref [ "production_is" ] and over = ref [] in
+  List.iter (fun (name, over_fields, (statement, proof)) ->
+      let name = fresh name in
+      names := name :: !names;
+      if over_fields = None then begin
+        say "Theorem %s : %s." name statement;
+        say "Proof. exact (%s). Qed.\n" proof
+      end else begin
+        over := (name ^ " reals") :: !over;
+        say "Theorem %s : forall K, %s." name statement;
+        say "Proof. intros K. exact (%s). Qed.\n" proof
+      end)
+    (stated_of_producers plans questions found);
+  foot out !names !over;
+  Buffer.contents out
+
 (* ---- random choices ---- *)
 
 (* What a claim states of populations over every ordered field, and how it follows. *)

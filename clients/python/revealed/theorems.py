@@ -21,9 +21,7 @@ INSTALL = (
 )
 
 
-def theorem(
-    data: Any, certificate: Any = None, *, per: Any = None, pairs: bool = False, pump: bool = False, to: Any = None, exe: Any = None
-) -> str:
+def theorem(data: Any, certificate: Any = None, *, per: Any = None, pairs: bool = False, pump: bool = False, to: Any = None, exe: Any = None) -> str:
     """Returns a file of Coq that proves the verdicts on a table, or on choices from budgets. `to` names a file to write.
 
     `data` is a result of `analyse`, `demand_bounds`, `welfare_bounds` or `random_utility`, which has its own certificate. Or it is a frame,
@@ -67,8 +65,8 @@ def _of_answer(data: Any, certificate: Any, per: Any, pump: bool) -> tuple[list[
     """Returns the words and the files of the theorems on an answer, or on data with a certificate."""
     answer = data if certificate is None else certificate
     if certificate is None and not hasattr(data, "certificate") and not isinstance(data, MoneyPump):
-        ask = commands.pump if pump else commands.analyse
-        answer = ask(*data) if isinstance(data, tuple) else ask(data)
+        asked = data if isinstance(data, tuple) else (data,)
+        answer = commands.pump(*asked) if pump else commands.analyse(*asked)
     files, per, _ = commands._files(answer if certificate is None else data, per)
     if pump or isinstance(answer, MoneyPump):
         if per is not None:
