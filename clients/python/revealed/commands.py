@@ -319,12 +319,18 @@ def verify(data: Any, certificate: Any = None, *, per: Any = None) -> Findings:
     if claimed.lstrip().startswith(b"alternatives "):
         return verifier.verify_menus(files.get(MENUS, files.get(TABLE, b"")), claimed, per)
     if TABLE in files:
-        is_report = claimed.lstrip().startswith(b"observations ")
-        found = verifier.verify_pump(files[TABLE], claimed) if is_report else verifier.verify_table(files[TABLE], claimed)
+        found = _verifier_of(claimed)(files[TABLE], claimed)
         return told_of_prices(found) if getattr(_table_of(data), "own_money", False) else found
     if BUDGETS in files:
         return verifier.verify_choices(files[BUDGETS], files[CHOICES], claimed, per)
     raise BadData("a certificate is on a table or on choices from budgets; on menus and on firms there are reports")
+
+
+def _verifier_of(claimed: bytes) -> Callable[[bytes, bytes], Findings]:
+    """Returns what looks at evidence on a table: a report of `pump`, a certificate on goodness of fit, or another one."""
+    if claimed.lstrip().startswith(b"observations "):
+        return verifier.verify_pump
+    return verifier.verify_fit if verifier.is_fit(claimed) else verifier.verify_table
 
 
 def _table_of(data: Any) -> Any:
@@ -339,7 +345,7 @@ def told_of_prices(found: Findings) -> Findings:
     """Returns what was found of a table whose prices are intercepts exchanged: an item that adds money of different rows proves its
     verdict of these prices, and tells nothing of the data."""
     for item in found.items:
-        if item.kind in ("quasilinear", "pump"):
+        if item.kind in ("quasilinear", "pump", "steps", "quasilinear_level"):
             item.says = f"{item.says} on the exchanged intercepts as prices of one unit of money, which is not told of the data"
     return found
 

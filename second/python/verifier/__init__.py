@@ -7,12 +7,13 @@ then looks. Nothing of it is proved.
 
 It goes by the definitions. The program's checker goes by clauses, which also ask for a form: numbers within a width, lists
 that rise. Where an item proves its verdict but has not that form, the item is accepted here with a remark. So the
-program's checker accepts a certificate exactly where this one does, and remarks on nothing.
+program's checker accepts a certificate exactly where this one does, and remarks on nothing. A certificate on goodness of fit is
+looked at by the clauses themselves (`fit`).
 """
 
 from __future__ import annotations
 
-from . import afriat, certificate, cost, demand, efficiency, garp, homothetic, menus, pump, quasilinear, random_choices, reports
+from . import afriat, certificate, cost, demand, efficiency, fit, garp, homothetic, menus, pump, quasilinear, random_choices, reports
 from . import tables, welfare, words
 from .certificate import NoCertificate
 from .reports import NoReport
@@ -24,8 +25,10 @@ __all__ = [
     "NoCertificate",
     "NoReport",
     "NoTable",
+    "is_fit",
     "verify_choices",
     "verify_cost",
+    "verify_fit",
     "verify_menus",
     "verify_pump",
     "verify_table",
@@ -33,9 +36,21 @@ __all__ = [
 
 
 class Finding:
-    """What was found of one item: `proves` is True, False, or None where the item withholds its verdict. `says` is that verdict."""
+    """What was found of one item: `proves` is True, False, or None where the item withholds its verdict. `says` is that verdict.
 
-    def __init__(self, number: int, kind: str, proves: bool | None, why: str | None, remarks: list[str], withheld: int, says: str | None = None) -> None:
+    `failure` is the reason and the place, where the item was looked at clause by clause and fails."""
+
+    def __init__(
+        self,
+        number: int,
+        kind: str,
+        proves: bool | None,
+        why: str | None,
+        remarks: list[str],
+        withheld: int,
+        says: str | None = None,
+        failure: tuple[str, int] | None = None,
+    ) -> None:
         self.number = number
         self.kind = kind
         self.proves = proves
@@ -43,6 +58,7 @@ class Finding:
         self.remarks = remarks
         self.withheld = withheld
         self.says = says or kind
+        self.failure = failure
 
     def __repr__(self) -> str:
         said = {True: ": proved", False: f": not proved, {self.why}", None: ": nothing is said"}[self.proves]
@@ -70,6 +86,14 @@ class Findings:
     def rejected(self) -> Finding | None:
         """The first item that fails, or None."""
         return next((item for item in self.items if item.proves is False), None)
+
+    @property
+    def line(self) -> str:
+        """The line that the program writes of a certificate on goodness of fit."""
+        failing = self.rejected
+        if failing is None:
+            return f"accepted items {len(self.items)}"
+        return f"rejected item {failing.number} {' place '.join(map(str, failing.failure or ()))}"
 
     @property
     def withheld(self) -> int:
@@ -102,6 +126,26 @@ def verify_table(table: bytes, data: bytes) -> Findings:
         found.append(finding(number, item, why, remarks + more, withheld))
         if item["item"] == "garp" and "ranks" in item and why is None:
             axiom_is_shown = True
+    return Findings(found, observations_of(own))
+
+
+def is_fit(data: bytes) -> bool:
+    """Whether these bytes are a certificate of the kind on goodness of fit."""
+    return certificate.kind_of(data) == "fit"
+
+
+def verify_fit(table: bytes, data: bytes) -> Findings:
+    """Looks at a certificate on goodness of fit, clause by clause, up to the first item that fails; both are bytes."""
+    own = tables.read_table(table)
+    if own.levels:
+        raise NoTable("goodness of fit is defined on a table without levels")
+    found = []
+    for number, (item, _) in enumerate(certificate.read(data, "fit")[1], 1):
+        failure = fit.look(own, item)
+        if failure:
+            found.append(Finding(number, item["item"], False, repr(failure), [], 0, failure=(failure.reason, failure.place)))
+            break
+        found.append(Finding(number, item["item"], True, None, [], 0, fit.says(own, item)))
     return Findings(found, observations_of(own))
 
 

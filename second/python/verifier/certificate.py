@@ -48,8 +48,11 @@ class _Reader:
     def whole(self, value):
         return self.fit(_digits(value), 2**64 - 1, "2^64 - 1")
 
-    def price(self, value):
+    def small(self, value):
         return self.fit(_digits(value), 2**32 - 1, "2^32 - 1")
+
+    def wide(self, value):
+        return self.fit(_digits(value), 2**128 - 1, "2^128 - 1")
 
     def signed(self, value):
         text = _text(value)
@@ -127,12 +130,13 @@ class _Reader:
                 self.object_of(den=self.whole, item=item, parts=parts, total=self.whole, weights=self.listed(self.whole)),
                 self.object_of(item=item, total=self.whole, withheld=self.whole),
             )
-        walk, ranks, wholes, prices = (self.listed(it) for it in (self.place, self.count, self.whole, self.price))
+        if kind == "fit":
+            return self.fit_item()
+        walk, ranks, wholes, prices = (self.listed(it) for it in (self.place, self.count, self.whole, self.small))
         bound = self.one_of(
             self.object_of(den=self.whole, value=self.fraction, x=wholes, y=self.listed(self.tuple_of(self.place, self.whole))),
             self.object_of(withheld=self.whole),
         )
-        index = {"above": walk, "below": ranks, "item": self.named("efficiency"), "level": self.level}
         demand = {"expenditure": self.whole, "item": self.named("demand"), "prices": prices}
         welfare = {"item": self.named("welfare"), "observation": self.place, "prices": prices}
         return self.one_of(
@@ -141,8 +145,7 @@ class _Reader:
             self.object_of(item=self.named("afriat"), utility=self.listed(self.signed), **{"lambda": wholes}),
             self.object_of(item=self.named("afriat"), cycle=walk),
             self.object_of(item=self.named("afriat"), withheld=self.place),
-            self.object_of(at_ranks=ranks, **index),
-            self.object_of(at_cycle=walk, **index),
+            self.efficiency_item(),
             self.object_of(item=self.named("homothetic"), values=self.listed(self.fraction)),
             self.object_of(item=self.named("homothetic"), cycle=walk, start=self.fraction),
             self.object_of(item=self.named("homothetic"), withheld=self.tuple_of(self.count, self.place, self.place)),
@@ -158,6 +161,31 @@ class _Reader:
             self.object_of(cycle=walk, **demand),
             self.object_of(at=self.place, lower=bound, upper=self.whole, **welfare),
             self.object_of(cycle=walk, **welfare),
+        )
+
+    def efficiency_item(self):
+        """The critical cost efficiency index."""
+        walk, ranks = self.listed(self.place), self.listed(self.count)
+        index = {"above": walk, "below": ranks, "item": self.named("efficiency"), "level": self.level}
+        return self.one_of(self.object_of(at_ranks=ranks, **index), self.object_of(at_cycle=walk, **index))
+
+    def fit_item(self):
+        """The items of a certificate on goodness of fit."""
+        walk, ranks, values = self.listed(self.place), self.listed(self.count), self.listed(self.signed)
+        weighted = self.listed(self.tuple_of(walk, self.whole))
+        group = self.one_of(self.object_of(pairs=walk, weight=self.small), self.object_of(cycle=walk, weight=self.small))
+        pairs = {name: self.small for name in ("garp", "wgarp", "warp", "sarp", "observations")}
+        bounded = {"den": self.whole, "ranks": ranks, "walks": weighted}
+        ratio = {"num": self.whole, "den": self.whole, "values": values}
+        return self.one_of(
+            self.object_of(item=self.named("violations"), **pairs),
+            self.efficiency_item(),
+            self.object_of(item=self.named("kept"), kept=walk, ranks=ranks, den=self.small, groups=self.listed(group), most=self.small),
+            self.object_of(item=self.named("levels"), lack=self.one_of(self.named("mean"), self.named("squares")), at=walk, **bounded),
+            self.object_of(item=self.named("steps"), taken=self.listed(walk), cost=self.wide, **bounded),
+            self.object_of(item=self.named("pump"), cycle=walk, **ratio),
+            self.object_of(item=self.named("quasilinear_level"), walk=walk, **ratio),
+            self.object_of(item=self.named("homothetic_level"), low=self.whole, high=self.whole, walk=walk, values=self.listed(self.whole)),
         )
 
 
@@ -184,7 +212,9 @@ def whole_number(text):
 
 
 def read(data, kind):
-    """Returns the levels of a certificate of a kind (none in version 1), and its items, each with the remarks on its numbers."""
+    """Returns the levels of a certificate of a kind (none in version 1), and its items, each with the remarks on its numbers.
+
+    In a certificate on goodness of fit a number past its type is refused."""
     top = _value(data)
     if not isinstance(top, dict) or top.get("kind") != kind:
         raise NoCertificate(f"no object, or its kind is not {kind!r}")
@@ -196,15 +226,26 @@ def read(data, kind):
         reader = _Reader()
         try:
             items.append((reader.item(kind)(value), reader.remarks))
+            if kind == "fit" and reader.remarks:
+                raise _Wrong
         except _Wrong:
             raise NoCertificate(f"item {number} is none of its kind", number) from None
     return levels, items
 
 
+def kind_of(data):
+    """Returns the kind that a certificate says it is of, or None."""
+    try:
+        top = _value(data)
+    except NoCertificate:
+        return None
+    return top.get("kind") if isinstance(top, dict) else None
+
+
 def _levels(top, kind):
     """Returns the levels of a certificate; refuses a version that is not known, and members that are not those of the version."""
-    if top["version"] not in (1, 2):
-        raise NoCertificate("the version is neither 1 nor 2")
+    if top["version"] not in ((1,) if kind == "fit" else (1, 2)):
+        raise NoCertificate("the version is not 1" if kind == "fit" else "the version is neither 1 nor 2")
     members = {"items", "kind", "version"} | ({"levels"} if top["version"] == 2 else set())
     if set(top) != members:
         raise NoCertificate(f"a certificate of version {top['version']} has the members {', '.join(sorted(members))}")

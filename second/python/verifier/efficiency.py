@@ -7,7 +7,10 @@ at a level lasts at every higher one: so one level between the index and the nex
 
 from fractions import Fraction
 
+from . import clauses as common
 from . import walks
+
+WIDEST_DENOMINATOR = 2**51
 
 
 def look(table, item):
@@ -58,3 +61,21 @@ def no_walk_above(table, walk, level):
         if t not in weak[s]:
             return f"the step from {s + 1} to {t + 1} is not weak"
     return None
+
+
+def clauses(table, item):
+    """Yields the clauses of the item in a certificate on goodness of fit, in order."""
+    level, count = item["level"], len(table.observations)
+    fits = 0 < level <= 1 and level.denominator < WIDEST_DENOMINATOR
+    yield "the level is not above 0 and at most 1, or its denominator is too large", 0, fits
+    weak, strict = walks.weakly_preferred(table, level), walks.strictly_preferred(table, level)
+    yield from common.of_falling_ranks(count, item["below"], strict)
+    if level == 1:
+        yield "at the level 1 there is nothing above", 1, not item["above"]
+    else:
+        yield from common.of_closed_walk(count, item["above"])
+        yield from common.of_weak_steps(item["above"], weak)
+    if "at_ranks" in item:
+        yield from common.of_ranks(count, item["at_ranks"], weak, strict)
+    else:
+        yield from common.of_violation(table, item["at_cycle"], level)

@@ -9,6 +9,7 @@ GARP fails, since there a closed walk of weak steps has a strict one: that is de
 
 from __future__ import annotations
 
+from . import clauses as common
 from . import walks
 
 WIDEST_PART = 2**60
@@ -54,3 +55,19 @@ def remarks(table, item):
         found.append("the walk has more steps than there are observations")
     wide = [s for s, value in enumerate(item["values"], 1) if abs(value) > WIDEST_VALUE]
     return found + [f"the value of {s} is above 2^121 in size" for s in wide]
+
+
+def clauses(table, item):
+    """Yields the clauses of the item in a certificate on goodness of fit, in order."""
+    num, den, walk, values = item["num"], item["den"], item["cycle"], item["values"]
+    weak, count = walks.weakly_preferred(table), len(table.observations)
+    yield "the denominator is 0", 0, den >= 1
+    yield "a part of the ratio is above 2^60", 0, max(num, den) <= WIDEST_PART
+    yield "the walk has more steps than there are observations", 1, len(walk) <= count + 1
+    yield from common.of_closed_walk(count, walk)
+    yield from common.of_weak_steps(walk, weak)
+    spent = sum(table.cost(s, s) for s, _ in walks.steps_of(walk))
+    lost = sum(loss(table, s, t) for s, t in walks.steps_of(walk))
+    yield "the walk has another ratio", 0, lost * den == num * spent
+    allows = lambda s, t: s == t or t not in weak[s] or values[t] <= values[s] + num * table.cost(s, s) - den * loss(table, s, t)
+    yield from common.of_values(count, values, lambda value: abs(value) <= WIDEST_VALUE, allows)

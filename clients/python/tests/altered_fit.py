@@ -1,0 +1,403 @@
+#!/usr/bin/env python3
+"""Altered certificates on goodness of fit: what the second checker accepts is true, by looking at all there is.
+
+usage: altered_fit.py [COUNT] [SEED]
+
+Draws small tables (up to five observations), makes a true certificate of each by `fit_by_search`, which the checker has to accept,
+and alters it in one way, eight times: numbers, lists, members, items of another table, and changes that may leave it true. Each
+item of an accepted certificate has to be true by `fit_by_search`. Tells how many were accepted, and what was rejected why.
+"""
+from __future__ import annotations
+
+import collections
+import copy
+import json
+import os
+import random
+import sys
+
+HERE = os.path.dirname(os.path.realpath(__file__))
+sys.path[:0] = [HERE, os.path.dirname(HERE)]
+import fit_by_search as search  # noqa: E402
+from revealed.verifier import NoCertificate, verify_fit  # noqa: E402
+
+COUNT, EACH, SEED = 5000, 8, "altered fit"
+MOST_STEPS = 11
+WIDE = [2**32 - 1, 2**32, 2**40, 2**51, 2**60, 2**60 + 1, 2**64 - 1, 2**64, 2**120, 2**120 + 1, 2**121, 2**127, 2**128]
+
+
+# ---- tables
+
+
+def drawn(choice):
+    """Returns the bytes of a small table, and the table; few steps are on closed walks, so that all sets of them can be tried."""
+    while True:
+        count, goods, most = choice.randint(1, 5), choice.randint(1, 3), choice.choice([2, 4, 9])
+        prices = [[choice.randint(1, most) for _ in range(goods)] for _ in range(count)]
+        bundles = [[choice.randint(0, most) for _ in range(goods)] for _ in range(count)]
+        if count > 1 and choice.random() < 0.2:
+            bundles[0] = bundles[-1]
+        if not all(map(any, bundles)):
+            continue
+        table = search.Table(prices, bundles)
+        strict = search.strict_at(table, search.ones(table))
+        reached = search.closure(table, strict)
+        if sum((t, s) in reached for s, t in strict) <= MOST_STEPS:
+            return csv(prices, bundles), table
+
+
+def csv(prices, bundles):
+    names = [f"{side}_{good}" for side in "pq" for good in range(len(prices[0]))]
+    rows = [names, *(p + q for p, q in zip(prices, bundles))]
+    return "".join(",".join(map(str, row)) + "\n" for row in rows).encode()
+
+
+# ---- true items
+
+
+def ids(places):
+    return [s + 1 for s in places]
+
+
+def ranks_of(table, steps):
+    """Returns ranks that fall along steps without a closed walk: how many observations each leads to.
+
+    Where there are closed walks, and a step from each to itself, the ranks rise along no step and fall along each that is on none."""
+    reached = search.closure(table, steps)
+    return [1 + sum((s, t) in reached for t in table.all) for s in table.all]
+
+
+def efficiency_item(table):
+    level, attained = table.once(search.efficiency)
+    levels = [level] * len(table.all)
+    weak, strict = search.weak_at(table, levels), search.strict_at(table, levels)
+    item = {"item": "efficiency", "level": str(level), "below": ranks_of(table, strict), "above": []}
+    if level < 1:
+        item["above"] = ids(next(walk for walk in search.cycles(table) if set(search.joined(walk)) <= weak and len(walk) > 2))
+    if attained:
+        return {**item, "at_ranks": ranks_of(table, weak | {(s, s) for s in table.all})}
+    return {**item, "at_cycle": ids(violation(table, weak, strict))}
+
+
+def violation(table, weak, strict):
+    return next(walk for walk in search.cycles(table) if set(search.joined(walk)) <= weak and set(search.joined(walk)) & strict)
+
+
+def kept_item(table, choice):
+    weak, strict = search.weak_at(table, search.ones(table)), search.strict_at(table, search.ones(table))
+    kept, den = table.once(search.largest), choice.choice([1, 1, 2, 3])
+    within = ranks_of(table, {it for it in weak if set(it) <= set(kept)} | {(s, s) for s in kept})
+    contradict = {(s, t) for s, t in weak if (t, s) in strict} | {(s, t) for s, t in strict if (t, s) in weak}
+    pool = [("pairs", [s]) for s in table.all]
+    pool += [("pairs", [s, t]) for s, t in contradict if s < t]
+    pool += [
+        ("pairs", list(it)) for it in search.itertools.combinations(table.all, 3) if all(two in contradict for two in search.itertools.combinations(it, 2))
+    ]
+    pool += [("cycle", walk) for walk in search.cycles(table) if set(search.joined(walk)) <= weak and set(search.joined(walk)) & strict]
+    groups = []
+    lacking = {s: den for s in table.all}
+    while any(lacking.values()):
+        covered = lambda it: sum(lacking[s] > 0 for s in set(it[1]))
+        best = max(covered(it) / allowed(it) for it in pool)
+        kind, listed = choice.choice([it for it in pool if covered(it) and covered(it) / allowed(it) >= best * choice.choice([1, 1, 0.8])])
+        weight = choice.randint(1, max(lacking[s] for s in listed))
+        groups.append({kind: ids(listed), "weight": str(weight)})
+        lacking.update({s: max(0, lacking[s] - weight) for s in set(listed)})
+    total = sum(int(it["weight"]) * allowed(next((k, v) for k, v in it.items() if k != "weight")) for it in groups)
+    item = {"item": "kept", "kept": ids(kept), "ranks": [within[s] for s in kept]}
+    return {**item, "den": str(den), "groups": groups, "most": str(total // den)}
+
+
+def allowed(group):
+    return 1 if group[0] == "pairs" else len(group[1]) - 2
+
+
+def packed(table, choice, den, slack, loaded):
+    """Returns closed walks of strict steps with weights that load nothing more than it may; `loaded` says what a step loads."""
+    strict = search.strict_at(table, search.ones(table))
+    found = []
+    walks = [walk for walk in search.cycles(table) if set(search.joined(walk)) <= strict]
+    choice.shuffle(walks)
+    left = {key: den * value for key, value in slack.items()}
+    for walk in sorted(walks, key=len):
+        keys = [key for step in search.joined(walk) for key in loaded(step)]
+        weight = min(left[key] for key in keys)
+        if weight > 0:
+            found.append([ids(walk), str(weight)])
+            for key in keys:
+                left[key] -= weight
+    return found
+
+
+def levels_item(table, choice, lack):
+    power, den = {"mean": 1, "squares": 2}[lack], choice.choice([1, 1, 2, 16])
+    strict = search.strict_at(table, search.ones(table))
+    at = table.once(search.best_levels, power)
+    slack = {(s, t): search.UNIT * search.saved(table, (s, t)) ** power // table.costs[s][s] ** power for s, t in strict}
+    loaded = lambda step: [(s, t) for s, t in strict if s == step[0] and table.costs[s][t] <= table.costs[s][step[1]]]
+    below = {(s, t) for s in table.all for t in table.all if table.costs[s][t] < table.costs[s][at[s]]}
+    item = {"item": "levels", "lack": lack, "at": ids(at), "ranks": ranks_of(table, below)}
+    return {**item, "den": str(den), "walks": packed(table, choice, den, slack, loaded)}
+
+
+def steps_item(table, choice):
+    den, taken = choice.choice([1, 1, 2, 3]), table.once(search.best_steps)
+    strict = search.strict_at(table, search.ones(table))
+    slack = {it: search.saved(table, it) for it in strict}
+    rows = [sorted(t + 1 for u, t in taken if u == s) for s in table.all]
+    item = {"item": "steps", "taken": rows, "cost": str(sum(search.saved(table, it) for it in taken))}
+    ranks = ranks_of(table, strict - set(taken))
+    return {**item, "ranks": ranks, "den": str(den), "walks": packed(table, choice, den, slack, lambda step: [step])}
+
+
+def potentials(table, steps, weight):
+    """Returns values with none above that of s and the weight of a step from s."""
+    values = [0 for _ in table.all]
+    for _ in table.all:
+        for s, t in steps:
+            values[t] = min(values[t], values[s] + weight(s, t))
+    return values
+
+
+def pump_item(table):
+    walk = table.once(search.best_pump)
+    ratio = search.pump_ratio(table, walk)
+    weight = lambda s, t: ratio.numerator * table.costs[s][s] - ratio.denominator * search.saved(table, (s, t))
+    values = potentials(table, [(s, t) for s, t in search.weak_at(table, search.ones(table)) if s != t], weight)
+    return {"item": "pump", "num": str(ratio.numerator), "den": str(ratio.denominator), "cycle": ids(walk), "values": list(map(str, values))}
+
+
+def quotient_item(table):
+    walk = table.once(search.best_quotient)
+    level = search.quotient(table, walk)
+    weight = lambda s, t: level.denominator * table.costs[s][t] - level.numerator * table.costs[s][s]
+    values = potentials(table, [(s, t) for s in table.all for t in table.all], weight)
+    item = {"item": "quasilinear_level", "num": str(level.numerator), "den": str(level.denominator)}
+    return {**item, "walk": ids(walk), "values": list(map(str, values))}
+
+
+def means_item(table):
+    """Returns bounds that differ by little: the greatest `low` of every cycle, less 1, leaves room for values that are rounded."""
+    least = search.UNIT
+    for walk in search.cycles(table):
+        while not search.mean_is_at_least(table, walk, least):
+            least = down_to(lambda low, walk=walk: search.mean_is_at_least(table, walk, low), least)
+    best = next(walk for high in (least, least + 1) for walk in search.cycles(table) if search.mean_is_at_most(table, walk, high))
+    high = least if search.mean_is_at_most(table, best, least) else least + 1
+    low, values = factors(table, least)
+    return {"item": "homothetic_level", "low": str(low), "high": str(high), "walk": ids(best), "values": list(map(str, values))}
+
+
+def down_to(holds, most):
+    """Returns the greatest number below that holds, by halving."""
+    least = 0
+    while most - least > 1:
+        middle = (least + most) // 2
+        least, most = (middle, most) if holds(middle) else (least, middle)
+    return least
+
+
+def factors(table, low):
+    """Returns a lower bound and values that show it."""
+    while True:
+        values = [2**59 for _ in table.all]
+        for _ in range(4 * len(values)):
+            before = list(values)
+            for s in table.all:
+                for t in table.all:
+                    values[t] = min(values[t], values[s] * table.costs[s][t] * search.UNIT // (low * table.costs[s][s]))
+            if values == before:
+                return low, values
+        low -= 1
+
+
+def certificate(table, choice):
+    """Returns the items of a true certificate."""
+    pairs = {name: str(count) for name, count in table.once(search.pairs).items()}
+    return [
+        {"item": "violations", **pairs},
+        efficiency_item(table),
+        kept_item(table, choice),
+        levels_item(table, choice, "mean"),
+        levels_item(table, choice, "squares"),
+        steps_item(table, choice),
+        pump_item(table),
+        quotient_item(table),
+        means_item(table),
+    ]
+
+
+# ---- alterations
+
+
+def leaves(value, path=()):
+    """Yields the paths of the numbers and lists of a value."""
+    if isinstance(value, dict):
+        for name in value:
+            if name != "item":
+                yield from leaves(value[name], (*path, name))
+        return
+    yield path
+    if isinstance(value, list):
+        for place, it in enumerate(value):
+            yield from leaves(it, (*path, place))
+
+
+def at(value, path):
+    for step in path:
+        value = value[step]
+    return value
+
+
+def put(value, path, new):
+    at(value, path[:-1])[path[-1]] = new
+
+
+def other_number(choice, value):
+    """Returns a number or a fraction near another one, or a wide one, in the same spelling."""
+    if isinstance(value, int):
+        return choice.choice([value + 1, value - 1, value + 1, max(value - 1, 1), 0, 1, 2, choice.choice(WIDE), str(value)])
+    num, slash, den = value.partition("/")
+    if not num.lstrip("-").isdigit():
+        return choice.choice(["mean", "squares", "", "1"])
+    if slash:
+        return choice.choice([f"{int(num) + 1}/{den}", f"{num}/{int(den) + 1}", f"{int(num) - 1}/{den}", "1", f"{2 * int(num)}/{2 * int(den)}"])
+    near = [int(num) + 1, int(num) - 1, int(num) * 2, int(num) // 2, 0, 1, choice.choice(WIDE), -choice.choice(WIDE)]
+    return choice.choice([*map(str, near), str(int(num) + 1), str(max(0, int(num) - 1)), f"0{num}", int(num)])
+
+
+def other_list(choice, value):
+    """Returns a list with an entry more or fewer, entries exchanged, or the whole turned."""
+    found, place = list(value), choice.randrange(len(value) + 1)
+    way = choice.randrange(5)
+    if way == 0:
+        return found[:place] + found[place + 1 :]
+    if way == 1:
+        return [*found[:place], *(found[-1:] or [1]), *found[place:]]
+    if way == 2 and len(found) > 1:
+        first, second = choice.sample(range(len(found)), 2)
+        found[first], found[second] = found[second], found[first]
+        return found
+    return found[::-1] if way == 3 else found[1:] + found[:1]
+
+
+def weakened(choice, item):
+    """Changes an item so that it may say less and be as true."""
+    kind = item["item"]
+    if kind == "kept":
+        weakened_kept(choice, item)
+    elif kind in ("levels", "steps"):
+        weakened_walks(choice, item)
+    elif kind in ("pump", "quasilinear_level"):
+        weakened_ratio(choice, item, "cycle" if kind == "pump" else "walk")
+    elif kind == "homothetic_level":
+        name = choice.choice(["low", "high"])
+        item[name] = str(max(0, int(item[name]) - choice.choice([-1, 1, 1000])))
+    elif kind == "efficiency":
+        item["below"] = [it + 1 for it in item["below"]]
+
+
+def weakened_kept(choice, item):
+    way = choice.randrange(3)
+    if way == 0 and item["kept"]:
+        place = choice.randrange(len(item["kept"]))
+        del item["kept"][place], item["ranks"][place]
+    elif way == 1:
+        item["den"] = str(int(item["den"]) * 2)
+        for group in item["groups"]:
+            group["weight"] = str(int(group["weight"]) * 2)
+    else:
+        item["groups"] = choice.sample(item["groups"], len(item["groups"]))
+
+
+def weakened_walks(choice, item):
+    if not item["walks"]:
+        return
+    place, way = choice.randrange(len(item["walks"])), choice.randrange(3)
+    walk, weight = item["walks"][place]
+    if way == 0:
+        del item["walks"][place]
+    elif way == 1:
+        item["walks"][place] = [[*walk[1:], walk[1]], weight]
+    else:
+        item["walks"][place] = [walk, str(max(1, int(weight) // 2))]
+
+
+def weakened_ratio(choice, item, walk):
+    more, times = choice.choice([1, -3, 2**100]), choice.choice([2, 3])
+    if choice.random() < 0.5:
+        item["values"] = [str(int(it) + more) for it in item["values"]]
+    else:
+        item.update({name: str(int(item[name]) * times) for name in ("num", "den")}, values=[str(int(it) * times) for it in item["values"]])
+    if choice.random() < 0.5:
+        item[walk] = [*item[walk][1:], item[walk][1]]
+
+
+def altered(choice, items, another):
+    """Returns the items altered in one way."""
+    for _ in range(50):
+        found = copy.deepcopy(items)
+        place, way = choice.randrange(len(found)), choice.random()
+        item = found[place]
+        if way < 0.25:
+            weakened(choice, item)
+        elif way < 0.8:
+            path = choice.choice(list(leaves(item)))
+            value = at(item, path)
+            put(item, path, other_list(choice, value) if isinstance(value, list) else other_number(choice, value))
+        elif way < 0.9:
+            found[place] = next(it for it in another if it["item"] == item["item"])
+        elif way < 0.97:
+            found = other_list(choice, found)
+        else:
+            item[choice.choice(["extra", "cycle", "walk", "ranks"])] = item.pop(choice.choice(sorted(item)))
+        if found != items:
+            return found
+    return items
+
+
+def spelled(items):
+    return json.dumps({"items": items, "kind": "fit", "version": 1}).encode()
+
+
+# ---- the comparison
+
+
+def told(file, table, items):
+    """Returns what the checker says of a certificate in a word or two, and what it accepts that is untrue."""
+    try:
+        found = verify_fit(file, spelled(items))
+    except NoCertificate:
+        return "no certificate", []
+    if not found.accepted:
+        return f"{found.rejected.kind} {found.rejected.failure[0]}", []
+    return "accepted", [item for item in items if not search.is_true(table, item)]
+
+
+def main(words):
+    count, seed = int(words[0]) if words else COUNT, words[1] if len(words) > 1 else SEED
+    choice = random.Random(seed)
+    said, wrong, tried, tables, another = collections.Counter(), [], 0, 0, None
+    while tried < count:
+        file, table = drawn(choice)
+        items = certificate(table, choice)
+        line, untrue = told(file, table, items)
+        if line != "accepted" or untrue:
+            wrong.append(f"a true certificate: {line} {untrue} {file!r} {json.dumps(items)}")
+        for _ in range(min(EACH, count - tried)):
+            other = altered(choice, items, another or items)
+            line, untrue = told(file, table, other)
+            said[line] += 1
+            wrong += [f"accepted and untrue: {item} {file!r}" for item in untrue]
+        tried, tables, another = tried + EACH, tables + 1, items
+    for it in wrong[:5]:
+        print(it)
+    reasons = ", ".join(f"{line} {number}" for line, number in sorted(said.items()))
+    print(f"goodness of fit: {tables} certificates that were made, {sum(said.values())} that were altered ({reasons}): {len(wrong)} wrong")
+    return 1 if wrong else 0
+
+
+if __name__ == "__main__":
+    if {"-h", "--help"} & {*sys.argv[1:]}:
+        sys.exit(print(__doc__.strip()))
+    sys.exit(main(sys.argv[1:]))
