@@ -207,12 +207,12 @@ class WorkedRows(unittest.TestCase):
         self.assertEqual(said[1:3], ["efficiency 4/5 attained yes", "kept 1 of 2"])
         self.assertEqual(said[3], f"levels mean {FIFTH}/{2 * UNIT} to 1/10, exact")
         self.assertEqual(said[4], f"levels squares {SQUARE}/{2 * UNIT} to 1/50, exact")
-        self.assertEqual(said[5:8], ["steps 1/10", "pump 1/5", "quasilinear level 4/5"])
+        self.assertEqual(said[5:8], ["steps 1/10, exact", "pump 1/5", "quasilinear level 4/5"])
         said = [item.says for item in looked_at(THREE, *OF_THREE.values()).items]
-        self.assertEqual(said[2:6], ["kept 2 of 3", "levels mean 1/6, exact", "levels squares 1/12, exact", "steps 1/6"])
+        self.assertEqual(said[2:6], ["kept 2 of 3", "levels mean 1/6, exact", "levels squares 1/12, exact", "steps 1/6, exact"])
         self.assertEqual(said[6:], ["pump 1/2", "quasilinear level 1/2", "homothetic level 1/2"])
         said = [item.says for item in looked_at(NONE, *OF_NONE.values()).items]
-        self.assertEqual(said[2:6], ["kept 2 of 2", "levels mean 0, exact", "levels squares 0, exact", "steps 0"])
+        self.assertEqual(said[2:6], ["kept 2 of 2", "levels mean 0, exact", "levels squares 0, exact", "steps 0, exact"])
         self.assertEqual(said[6:], ["pump 0", "quasilinear level 1", "homothetic level 1"])
 
     def test_rows_are_true(self):

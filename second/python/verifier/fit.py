@@ -53,6 +53,11 @@ def of_levels(table, item):
     return of_bounds(f"levels {item['lack']}", *levels.bounds(table, item)) + exact
 
 
+def of_steps(table, item):
+    exact = ", exact" if steps.is_exact(table, item) else ""
+    return of_bounds("steps", *steps.bounds(table, item)) + exact
+
+
 def of_ratio(name):
     return lambda table, item: f"{name} {Fraction(item['num'], item['den'])}"
 
@@ -62,7 +67,7 @@ SAID = {
     "efficiency": lambda table, item: f"efficiency {item['level']} attained {'yes' if 'at_ranks' in item else 'no'}",
     "kept": of_kept,
     "levels": of_levels,
-    "steps": lambda table, item: of_bounds("steps", *steps.bounds(table, item)),
+    "steps": of_steps,
     "pump": of_ratio("pump"),
     "quasilinear_level": of_ratio("quasilinear level"),
     "homothetic_level": lambda table, item: of_bounds("homothetic level", *homothetic_level.bounds(item)),

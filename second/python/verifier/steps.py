@@ -40,3 +40,8 @@ def bounds(table, item):
     spent = sum(table.cost(s, s) for s in table.observations)
     weight = sum(own for _, own in item["walks"])
     return Fraction(weight, item["den"] * spent), Fraction(item["cost"], spent)
+
+
+def is_exact(table, item):
+    """Whether no sum of whole numbers lies between the two bounds on the cost."""
+    return sum(own for _, own in item["walks"]) > item["den"] * (item["cost"] - 1)
