@@ -123,21 +123,22 @@ def packed(table, choice, den, slack, loaded):
         keys = [key for step in search.joined(walk) for key in loaded(step)]
         weight = min(left[key] for key in keys)
         if weight > 0:
-            found.append([ids(walk), str(weight)])
+            found.append({"cycle": ids(walk), "weight": str(weight)})
             for key in keys:
                 left[key] -= weight
     return found
 
 
-def levels_item(table, choice, lack):
-    power, den = {"mean": 1, "squares": 2}[lack], choice.choice([1, 1, 2, 16])
+def levels_item(table, choice, measure):
+    power, den = {"mean": 1, "squares": 2}[measure], choice.choice([1, 1, 2, 16])
     strict = search.strict_at(table, search.ones(table))
     at = table.once(search.best_levels, power)
     slack = {(s, t): search.UNIT * search.saved(table, (s, t)) ** power // table.costs[s][s] ** power for s, t in strict}
     loaded = lambda step: [(s, t) for s, t in strict if s == step[0] and table.costs[s][t] <= table.costs[s][step[1]]]
     below = {(s, t) for s in table.all for t in table.all if table.costs[s][t] < table.costs[s][at[s]]}
-    item = {"item": "levels", "lack": lack, "at": ids(at), "ranks": ranks_of(table, below)}
-    return {**item, "den": str(den), "walks": packed(table, choice, den, slack, loaded)}
+    places = [0 if t == s else t + 1 for s, t in enumerate(at)]
+    item = {"item": "levels", "measure": measure, "at": places, "ranks": ranks_of(table, below)}
+    return {**item, "den": str(den), "cycles": packed(table, choice, den, slack, loaded)}
 
 
 def steps_item(table, choice):
@@ -147,7 +148,7 @@ def steps_item(table, choice):
     rows = [sorted(t + 1 for u, t in taken if u == s) for s in table.all]
     item = {"item": "steps", "taken": rows, "cost": str(sum(search.saved(table, it) for it in taken))}
     ranks = ranks_of(table, strict - set(taken))
-    return {**item, "ranks": ranks, "den": str(den), "walks": packed(table, choice, den, slack, lambda step: [step])}
+    return {**item, "ranks": ranks, "den": str(den), "cycles": packed(table, choice, den, slack, lambda step: [step])}
 
 
 def potentials(table, steps, weight):
@@ -173,7 +174,7 @@ def quotient_item(table):
     weight = lambda s, t: level.denominator * table.costs[s][t] - level.numerator * table.costs[s][s]
     values = potentials(table, [(s, t) for s in table.all for t in table.all], weight)
     item = {"item": "quasilinear_level", "num": str(level.numerator), "den": str(level.denominator)}
-    return {**item, "walk": ids(walk), "values": list(map(str, values))}
+    return {**item, "cycle": ids(walk), "values": list(map(str, values))}
 
 
 def means_item(table):
@@ -185,7 +186,7 @@ def means_item(table):
     best = next(walk for high in (least, least + 1) for walk in search.cycles(table) if search.mean_is_at_most(table, walk, high))
     high = least if search.mean_is_at_most(table, best, least) else least + 1
     low, values = factors(table, least)
-    return {"item": "homothetic_level", "low": str(low), "high": str(high), "walk": ids(best), "values": list(map(str, values))}
+    return {"item": "homothetic_level", "low": str(low), "high": str(high), "cycle": ids(best), "values": list(map(str, values))}
 
 
 def down_to(holds, most):
@@ -287,9 +288,9 @@ def weakened(choice, item):
     if kind == "kept":
         weakened_kept(choice, item)
     elif kind in ("levels", "steps"):
-        weakened_walks(choice, item)
+        weakened_cycles(choice, item)
     elif kind in ("pump", "quasilinear_level"):
-        weakened_ratio(choice, item, "cycle" if kind == "pump" else "walk")
+        weakened_ratio(choice, item)
     elif kind == "homothetic_level":
         name = choice.choice(["low", "high"])
         item[name] = str(max(0, int(item[name]) - choice.choice([-1, 1, 1000])))
@@ -310,27 +311,32 @@ def weakened_kept(choice, item):
         item["groups"] = choice.sample(item["groups"], len(item["groups"]))
 
 
-def weakened_walks(choice, item):
-    if not item["walks"]:
+def turned(walk):
+    """Returns a closed walk from its second observation on."""
+    return [*walk[1:], walk[1]]
+
+
+def weakened_cycles(choice, item):
+    if not item["cycles"]:
         return
-    place, way = choice.randrange(len(item["walks"])), choice.randrange(3)
-    walk, weight = item["walks"][place]
+    place, way = choice.randrange(len(item["cycles"])), choice.randrange(3)
+    each = item["cycles"][place]
     if way == 0:
-        del item["walks"][place]
+        del item["cycles"][place]
     elif way == 1:
-        item["walks"][place] = [[*walk[1:], walk[1]], weight]
+        each["cycle"] = turned(each["cycle"])
     else:
-        item["walks"][place] = [walk, str(max(1, int(weight) // 2))]
+        each["weight"] = str(max(1, int(each["weight"]) // 2))
 
 
-def weakened_ratio(choice, item, walk):
+def weakened_ratio(choice, item):
     more, times = choice.choice([1, -3, 2**100]), choice.choice([2, 3])
     if choice.random() < 0.5:
         item["values"] = [str(int(it) + more) for it in item["values"]]
     else:
         item.update({name: str(int(item[name]) * times) for name in ("num", "den")}, values=[str(int(it) * times) for it in item["values"]])
     if choice.random() < 0.5:
-        item[walk] = [*item[walk][1:], item[walk][1]]
+        item["cycle"] = turned(item["cycle"])
 
 
 def altered(choice, items, another):
@@ -350,7 +356,7 @@ def altered(choice, items, another):
         elif way < 0.97:
             found = other_list(choice, found)
         else:
-            item[choice.choice(["extra", "cycle", "walk", "ranks"])] = item.pop(choice.choice(sorted(item)))
+            item[choice.choice(["extra", "cycle", "cycles", "ranks"])] = item.pop(choice.choice(sorted(item)))
         if found != items:
             return found
     return items

@@ -217,16 +217,16 @@ def true_kept(table, item):
 
 
 def true_levels(table, item):
-    power = {"mean": 1, "squares": 2}[item["lack"]]
-    at, least = [t - 1 for t in item["at"]], lacking(table, table.once(best_levels, power), power)
-    lower = Fraction(sum(int(weight) for _, weight in item["walks"]), int(item["den"]) * UNIT)
+    power = {"mean": 1, "squares": 2}[item["measure"]]
+    at, least = [t - 1 if t else s for s, t in enumerate(item["at"])], lacking(table, table.once(best_levels, power), power)
+    lower = Fraction(sum(int(it["weight"]) for it in item["cycles"]), int(item["den"]) * UNIT)
     return holds_below(table, at) and lower <= least <= lacking(table, at, power)
 
 
 def true_steps(table, item):
     taken = {(s, t - 1) for s, row in enumerate(item["taken"]) for t in row}
     least = sum(saved(table, it) for it in table.once(best_steps))
-    lower = Fraction(sum(int(weight) for _, weight in item["walks"]), int(item["den"]))
+    lower = Fraction(sum(int(it["weight"]) for it in item["cycles"]), int(item["den"]))
     is_enough = is_acyclic(table, strict_at(table, ones(table)) - taken)
     return is_enough and sum(saved(table, it) for it in taken) == int(item["cost"]) and lower <= least <= int(item["cost"])
 

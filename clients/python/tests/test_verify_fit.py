@@ -35,23 +35,30 @@ OF_TWO = {
     "violations": counts(2, 2, 2, 2, 2),
     "efficiency": {"item": "efficiency", "level": "4/5", "above": [1, 2, 1], "below": [1, 1], "at_ranks": [2, 2]},
     "kept": {"item": "kept", "kept": [1], "ranks": [1], "den": "1", "groups": [{"pairs": [1, 2], "weight": "1"}], "most": "1"},
-    "mean": {"item": "levels", "lack": "mean", "at": [2, 2], "ranks": [1, 2], "den": "1", "walks": [[[1, 2, 1], str(FIFTH)]]},
-    "squares": {"item": "levels", "lack": "squares", "at": [2, 2], "ranks": [1, 2], "den": "1", "walks": [[[1, 2, 1], str(SQUARE)]]},
-    "steps": {"item": "steps", "taken": [[2], []], "cost": "1", "ranks": [1, 2], "den": "1", "walks": [[[1, 2, 1], "1"]]},
+    "mean": {"item": "levels", "measure": "mean", "at": [2, 0], "ranks": [1, 2], "den": "1", "cycles": [{"cycle": [1, 2, 1], "weight": str(FIFTH)}]},
+    "squares": {"item": "levels", "measure": "squares", "at": [2, 0], "ranks": [1, 2], "den": "1", "cycles": [{"cycle": [1, 2, 1], "weight": str(SQUARE)}]},
+    "steps": {"item": "steps", "taken": [[2], []], "cost": "1", "ranks": [1, 2], "den": "1", "cycles": [{"cycle": [1, 2, 1], "weight": "1"}]},
     "pump": {"item": "pump", "num": "1", "den": "5", "cycle": [1, 2, 1], "values": ["0", "0"]},
-    "quasilinear": {"item": "quasilinear_level", "num": "4", "den": "5", "walk": [1, 2, 1], "values": ["0", "0"]},
-    "homothetic": {"item": "homothetic_level", "low": "879609302220", "high": "879609302221", "walk": [1, 2, 1], "values": ["1", "1"]},
+    "quasilinear": {"item": "quasilinear_level", "num": "4", "den": "5", "cycle": [1, 2, 1], "values": ["0", "0"]},
+    "homothetic": {"item": "homothetic_level", "low": "879609302220", "high": "879609302221", "cycle": [1, 2, 1], "values": ["1", "1"]},
 }
 OF_THREE = {
     "violations": counts(3, 0, 0, 3, 3),
     "efficiency": {"item": "efficiency", "level": "1/2", "above": [1, 2, 3, 1], "below": [1, 1, 1], "at_ranks": [3, 3, 3]},
     "kept": {"item": "kept", "kept": [1, 2], "ranks": [2, 1], "den": "1", "groups": [{"cycle": [1, 2, 3, 1], "weight": "1"}], "most": "2"},
-    "mean": {"item": "levels", "lack": "mean", "at": [1, 2, 1], "ranks": [3, 2, 1], "den": "1", "walks": [[[1, 2, 3, 1], str(2**39)]]},
-    "squares": {"item": "levels", "lack": "squares", "at": [1, 2, 1], "ranks": [3, 2, 1], "den": "1", "walks": [[[1, 2, 3, 1], str(2**38)]]},
-    "steps": {"item": "steps", "taken": [[], [], [1]], "cost": "1", "ranks": [3, 2, 1], "den": "1", "walks": [[[2, 3, 1, 2], "1"]]},
+    "mean": {"item": "levels", "measure": "mean", "at": [0, 0, 1], "ranks": [3, 2, 1], "den": "1", "cycles": [{"cycle": [1, 2, 3, 1], "weight": str(2**39)}]},
+    "squares": {
+        "item": "levels",
+        "measure": "squares",
+        "at": [0, 0, 1],
+        "ranks": [3, 2, 1],
+        "den": "1",
+        "cycles": [{"cycle": [1, 2, 3, 1], "weight": str(2**38)}],
+    },
+    "steps": {"item": "steps", "taken": [[], [], [1]], "cost": "1", "ranks": [3, 2, 1], "den": "1", "cycles": [{"cycle": [2, 3, 1, 2], "weight": "1"}]},
     "pump": {"item": "pump", "num": "1", "den": "2", "cycle": [1, 2, 3, 1], "values": ["0", "0", "0"]},
-    "quasilinear": {"item": "quasilinear_level", "num": "1", "den": "2", "walk": [3, 1, 2, 3], "values": ["5", "5", "5"]},
-    "homothetic": {"item": "homothetic_level", "low": str(2**39), "high": str(2**39), "walk": [1, 2, 3, 1], "values": ["1", "1", "1"]},
+    "quasilinear": {"item": "quasilinear_level", "num": "1", "den": "2", "cycle": [3, 1, 2, 3], "values": ["5", "5", "5"]},
+    "homothetic": {"item": "homothetic_level", "low": str(2**39), "high": str(2**39), "cycle": [1, 2, 3, 1], "values": ["1", "1", "1"]},
 }
 OF_NONE = {
     "violations": counts(0, 0, 0, 0, 0),
@@ -64,12 +71,12 @@ OF_NONE = {
         "groups": [{"pairs": [1], "weight": "1"}, {"pairs": [2], "weight": "1"}],
         "most": "2",
     },
-    "mean": {"item": "levels", "lack": "mean", "at": [1, 2], "ranks": [2, 1], "den": "1", "walks": []},
-    "squares": {"item": "levels", "lack": "squares", "at": [1, 2], "ranks": [2, 1], "den": "1", "walks": []},
-    "steps": {"item": "steps", "taken": [[], []], "cost": "0", "ranks": [2, 1], "den": "1", "walks": []},
+    "mean": {"item": "levels", "measure": "mean", "at": [0, 0], "ranks": [2, 1], "den": "1", "cycles": []},
+    "squares": {"item": "levels", "measure": "squares", "at": [0, 0], "ranks": [2, 1], "den": "1", "cycles": []},
+    "steps": {"item": "steps", "taken": [[], []], "cost": "0", "ranks": [2, 1], "den": "1", "cycles": []},
     "pump": {"item": "pump", "num": "0", "den": "1", "cycle": [1, 1], "values": ["0", "-4"]},
-    "quasilinear": {"item": "quasilinear_level", "num": "1", "den": "1", "walk": [1, 1], "values": ["0", "-4"]},
-    "homothetic": {"item": "homothetic_level", "low": str(UNIT), "high": str(UNIT), "walk": [2, 2], "values": ["2", "1"]},
+    "quasilinear": {"item": "quasilinear_level", "num": "1", "den": "1", "cycle": [1, 1], "values": ["0", "-4"]},
+    "homothetic": {"item": "homothetic_level", "low": str(UNIT), "high": str(UNIT), "cycle": [2, 2], "values": ["2", "1"]},
 }
 OF_TIED = {
     "violations": counts(0, 0, 2, 2, 0),
@@ -118,18 +125,18 @@ FORGED = {
         (("den",), "0", "Number place 0"),
         (("at",), [2], "Shape place 1"),
         (("ranks",), [1], "Shape place 2"),
-        (("at",), [3, 2], "Level place 1"),
-        (("at",), [1, 2], "Order place 1"),
+        (("at",), [3, 0], "Level place 1"),
+        (("at",), [0, 0], "Order place 1"),
         (("ranks",), [2, 2], "Order place 2"),
-        (("walks", 0, 1), "0", "Number place 1"),
-        (("walks", 0, 0), [1, 1], "Set place 1"),
-        (("walks", 0, 0), [1, 2], "Set place 1"),
-        (("walks", 0, 0), [1, 3, 1], "Set place 1"),
-        (("walks", 0, 0), [1, 2, 1, 2, 1], "Set place 1"),
-        (("walks", 0, 1), str(FIFTH + 1), "Dual place 1"),
-        (("lack",), "squares", "Dual place 1"),
+        (("cycles", 0, "weight"), "0", "Number place 1"),
+        (("cycles", 0, "cycle"), [1, 1], "Set place 1"),
+        (("cycles", 0, "cycle"), [1, 2], "Set place 1"),
+        (("cycles", 0, "cycle"), [1, 3, 1], "Set place 1"),
+        (("cycles", 0, "cycle"), [1, 2, 1, 2, 1], "Set place 1"),
+        (("cycles", 0, "weight"), str(FIFTH + 1), "Dual place 1"),
+        (("measure",), "squares", "Dual place 1"),
     ],
-    "squares": [(("walks", 0, 1), str(SQUARE + 1), "Dual place 1")],
+    "squares": [(("cycles", 0, "weight"), str(SQUARE + 1), "Dual place 1")],
     "steps": [
         (("den",), "0", "Number place 0"),
         (("taken",), [[2]], "Shape place 1"),
@@ -140,9 +147,9 @@ FORGED = {
         (("taken",), [[], []], "Order place 1"),
         (("ranks",), [2, 2], "Order place 2"),
         (("cost",), "2", "Bound place 0"),
-        (("walks", 0, 1), "0", "Number place 1"),
-        (("walks", 0, 0), [2, 2], "Set place 1"),
-        (("walks", 0, 1), "2", "Dual place 1"),
+        (("cycles", 0, "weight"), "0", "Number place 1"),
+        (("cycles", 0, "cycle"), [2, 2], "Set place 1"),
+        (("cycles", 0, "weight"), "2", "Dual place 1"),
     ],
     "pump": [
         (("den",), "0", "Number place 0"),
@@ -159,10 +166,10 @@ FORGED = {
     ],
     "quasilinear": [
         (("den",), "0", "Number place 0"),
-        (("walk",), [1, 2, 1, 1], "Shape place 1"),
-        (("walk",), [1], "Shape place 0"),
-        (("walk",), [3, 2, 3], "Number place 1"),
-        (("walk",), [2, 1], "NotClosed place 0"),
+        (("cycle",), [1, 2, 1, 1], "Shape place 1"),
+        (("cycle",), [1], "Shape place 0"),
+        (("cycle",), [3, 2, 3], "Number place 1"),
+        (("cycle",), [2, 1], "NotClosed place 0"),
         (("num",), "3", "Bound place 0"),
         (("values",), ["0", "0", "0"], "Shape place 2"),
         (("values", 0), str(-(2**120) - 1), "Number place 1"),
@@ -170,11 +177,11 @@ FORGED = {
     ],
     "homothetic": [
         (("high",), str(UNIT + 1), "Number place 0"),
-        (("walk",), [1, 2, 1, 1], "Shape place 1"),
-        (("walk",), [1], "Shape place 0"),
-        (("walk",), [1, 2, 2], "NotClosed place 0"),
+        (("cycle",), [1, 2, 1, 1], "Shape place 1"),
+        (("cycle",), [1], "Shape place 0"),
+        (("cycle",), [1, 2, 2], "NotClosed place 0"),
         (("high",), "879609302220", "Bound place 0"),
-        (("walk",), [1, 1], "Bound place 0"),
+        (("cycle",), [1, 1], "Bound place 0"),
         (("values",), ["1"], "Shape place 2"),
         (("values", 1), "0", "Number place 2"),
         (("values", 0), str(2**60 + 1), "Number place 1"),
@@ -222,7 +229,7 @@ class WorkedRows(unittest.TestCase):
 
     def test_bounds_that_do_not_meet(self):
         singles = [{"pairs": [s], "weight": "1"} for s in (1, 2)]
-        found = looked_at(TWO, {**OF_TWO["kept"], "groups": singles, "most": "2"}, {**OF_TWO["mean"], "walks": []})
+        found = looked_at(TWO, {**OF_TWO["kept"], "groups": singles, "most": "2"}, {**OF_TWO["mean"], "cycles": []})
         self.assertEqual([item.says for item in found.items], ["kept 1 to 2 of 2", "levels mean 0 to 1/10"])
 
 
@@ -246,11 +253,11 @@ class ForgedItems(unittest.TestCase):
         self.fails(THREE, changed(kept, ("groups", 0, "cycle"), [1, 2, 1]), "Set place 1")
         self.fails(THREE, changed(kept, ("groups", 0, "cycle"), [1, 1, 1]), "Set place 1")
         self.fails(THREE, changed(kept, ("groups", 0, "cycle"), [1, 2, 3, 1, 2, 3, 1]), "Set place 1")
-        self.fails(THREE, {**OF_THREE["mean"], "at": [3, 2, 3]}, "Level place 1")
-        self.fails(THREE, changed(OF_THREE["steps"], ("walks", 0, 0), [1, 3, 1]), "Set place 1")
+        self.fails(THREE, {**OF_THREE["mean"], "at": [3, 0, 0]}, "Level place 1")
+        self.fails(THREE, changed(OF_THREE["steps"], ("cycles", 0, "cycle"), [1, 3, 1]), "Set place 1")
         # A walk that leaves 1 by the step to 2 loads the level of 1 by every bundle that is no dearer; here it is the only one.
-        twice = [[[1, 2, 3, 1], str(2**38)], [[2, 3, 1, 2], str(2**38 + 1)]]
-        self.fails(THREE, {**OF_THREE["mean"], "walks": twice}, "Dual place 1")
+        twice = [{"cycle": [1, 2, 3, 1], "weight": str(2**38)}, {"cycle": [2, 3, 1, 2], "weight": str(2**38 + 1)}]
+        self.fails(THREE, {**OF_THREE["mean"], "cycles": twice}, "Dual place 1")
         self.fails(THREE, {**OF_THREE["pump"], "cycle": [1, 3, 2, 1]}, "NotWeak place 1")
         self.fails(THREE, changed(OF_THREE["pump"], ("values", 1), "4"), "Order place 1")
         self.fails(TIED, {**OF_TIED["kept"], "ranks": [1, 2]}, "Order place 1")
@@ -283,8 +290,8 @@ class ForgedItems(unittest.TestCase):
             (two_thirds - third + 1, third, "rejected item 1 Dual place 1"),
             (two_thirds - third - 1, third + 1, "rejected item 1 Dual place 1"),
         ]:
-            walks = [[[1, 2, 1], str(by_two)], [[1, 3, 1], str(by_three)]]
-            item = {"item": "levels", "lack": "mean", "at": [2, 2, 3], "ranks": [1, 2, 2], "den": "1", "walks": walks}
+            cycles = [{"cycle": [1, 2, 1], "weight": str(by_two)}, {"cycle": [1, 3, 1], "weight": str(by_three)}]
+            item = {"item": "levels", "measure": "mean", "at": [2, 0, 0], "ranks": [1, 2, 2], "den": "1", "cycles": cycles}
             self.assertEqual(looked_at(table, item).line, told)
 
 
@@ -302,9 +309,9 @@ class Reading(unittest.TestCase):
             ("kept", ("groups", 0, "weight"), str(2**32)),
             ("kept", ("groups", 0), {"weight": "1"}),
             ("kept", ("groups", 0), {"pairs": [1], "cycle": [1, 1], "weight": "1"}),
-            ("mean", ("lack",), "median"),
-            ("mean", ("at", 0), 0),
-            ("mean", ("walks", 0, 1), str(2**64)),
+            ("mean", ("measure",), "median"),
+            ("mean", ("at", 1), 2),
+            ("mean", ("cycles", 0, "weight"), str(2**64)),
             ("steps", ("cost",), str(2**128)),
             ("steps", ("cost",), "01"),
             ("pump", ("values", 0), "-0"),

@@ -169,23 +169,31 @@ class _Reader:
         index = {"above": walk, "below": ranks, "item": self.named("efficiency"), "level": self.level}
         return self.one_of(self.object_of(at_ranks=ranks, **index), self.object_of(at_cycle=walk, **index))
 
+    def levels_at(self, value):
+        """For each observation 0, for the level 1, or another observation: its own number stands for nothing."""
+        places = self.listed(self.count)(value)
+        if any(at == s for s, at in enumerate(places, 1)):
+            raise _Wrong
+        return places
+
     def fit_item(self):
         """The items of a certificate on goodness of fit."""
         walk, ranks, values = self.listed(self.place), self.listed(self.count), self.listed(self.signed)
-        weighted = self.listed(self.tuple_of(walk, self.whole))
+        cycles = self.listed(self.object_of(cycle=walk, weight=self.whole))
         group = self.one_of(self.object_of(pairs=walk, weight=self.small), self.object_of(cycle=walk, weight=self.small))
         pairs = {name: self.small for name in ("garp", "wgarp", "warp", "sarp", "observations")}
-        bounded = {"den": self.whole, "ranks": ranks, "walks": weighted}
-        ratio = {"num": self.whole, "den": self.whole, "values": values}
+        measure = self.one_of(self.named("mean"), self.named("squares"))
+        bounded = {"den": self.whole, "ranks": ranks, "cycles": cycles}
+        ratio = {"num": self.whole, "den": self.whole, "cycle": walk, "values": values}
         return self.one_of(
             self.object_of(item=self.named("violations"), **pairs),
             self.efficiency_item(),
             self.object_of(item=self.named("kept"), kept=walk, ranks=ranks, den=self.small, groups=self.listed(group), most=self.small),
-            self.object_of(item=self.named("levels"), lack=self.one_of(self.named("mean"), self.named("squares")), at=walk, **bounded),
+            self.object_of(item=self.named("levels"), measure=measure, at=self.levels_at, **bounded),
             self.object_of(item=self.named("steps"), taken=self.listed(walk), cost=self.wide, **bounded),
-            self.object_of(item=self.named("pump"), cycle=walk, **ratio),
-            self.object_of(item=self.named("quasilinear_level"), walk=walk, **ratio),
-            self.object_of(item=self.named("homothetic_level"), low=self.whole, high=self.whole, walk=walk, values=self.listed(self.whole)),
+            self.object_of(item=self.named("pump"), **ratio),
+            self.object_of(item=self.named("quasilinear_level"), **ratio),
+            self.object_of(item=self.named("homothetic_level"), low=self.whole, high=self.whole, cycle=walk, values=self.listed(self.whole)),
         )
 
 

@@ -50,7 +50,7 @@ def of_bounds(name, lower, upper):
 
 def of_levels(table, item):
     exact = ", exact" if levels.is_exact(table, item) else ""
-    return of_bounds(f"levels {item['lack']}", *levels.bounds(table, item)) + exact
+    return of_bounds(f"levels {item['measure']}", *levels.bounds(table, item)) + exact
 
 
 def of_steps(table, item):

@@ -18,7 +18,7 @@ WIDEST_VALUE = 2**60
 
 def clauses(table, item):
     """Yields the clauses of the item, in order."""
-    low, high, walk, values = item["low"], item["high"], item["walk"], item["values"]
+    low, high, walk, values = item["low"], item["high"], item["cycle"], item["values"]
     count = len(table.observations)
     yield "the upper bound is above 1", 0, high <= UNIT
     yield "the walk has more steps than there are observations", 1, len(walk) <= count + 1

@@ -23,22 +23,22 @@ def clauses(table, item):
     for s in table.observations:
         yield "the level is neither 1 nor that of a cheaper bundle", s + 1, is_level(table, s, at[s])
     for s in table.observations:
-        below = [t for t in table.observations if table.cost(s, t) < bundle_cost(table, s, at[s])]
+        below = [t for t in table.observations if table.cost(s, t) < table.cost(s, bundle_of(s, at[s]))]
         yield "the ranks do not respect the preference", s + 1, all(ranks[t] < ranks[s] for t in below)
-    yield from weighted.of_walks(table, item["walks"])
-    power = POWERS[item["lack"]]
+    yield from weighted.of_cycles(table, item["cycles"])
+    power = POWERS[item["measure"]]
     as_dear = lambda s, t, leaving: sum(weight for u, weight in leaving if table.cost(s, u) >= table.cost(s, t))
-    yield from weighted.of_loads(table, item["walks"], item["den"], as_dear, lambda s, t: lack_floor(table, power, s, t))
+    yield from weighted.of_loads(table, item["cycles"], item["den"], as_dear, lambda s, t: lack_floor(table, power, s, t))
 
 
 def is_level(table, s, at):
-    """Whether this is the observation s itself, for the level 1, or one whose bundle is cheaper there."""
-    return at == s + 1 or (1 <= at <= len(table.observations) and table.cost(s, at - 1) < table.cost(s, s))
+    """Whether this is 0, for the level 1, or an observation whose bundle is cheaper at s."""
+    return at == 0 or (at <= len(table.observations) and table.cost(s, at - 1) < table.cost(s, s))
 
 
-def bundle_cost(table, s, at):
-    """What the bundle costs at s that gives the level."""
-    return table.cost(s, at - 1)
+def bundle_of(s, at):
+    """The observation, from 0, whose bundle costs at s the part of what was spent that is the level."""
+    return at - 1 if at else s
 
 
 def lack(table, power, s, t):
@@ -53,14 +53,13 @@ def lack_floor(table, power, s, t):
 
 def bounds(table, item):
     """Returns the two bounds on the index that accepted evidence proves."""
-    power, count = POWERS[item["lack"]], len(table.observations)
-    weight = sum(own for _, own in item["walks"])
-    upper = sum(lack(table, power, s, at - 1) for s, at in enumerate(item["at"]))
-    return Fraction(weight, item["den"] * UNIT * count), upper / count
+    power, count = POWERS[item["measure"]], len(table.observations)
+    upper = sum(lack(table, power, s, bundle_of(s, at)) for s, at in enumerate(item["at"]))
+    return Fraction(weighted.weight_of_all(item["cycles"]), item["den"] * UNIT * count), upper / count
 
 
 def is_exact(table, item):
     """Whether the bounds meet, but for what the levels lost where they were rounded down."""
-    power = POWERS[item["lack"]]
-    rounded = sum(lack_floor(table, power, s, at - 1) for s, at in enumerate(item["at"]))
-    return sum(own for _, own in item["walks"]) > item["den"] * (rounded - 1)
+    power = POWERS[item["measure"]]
+    rounded = sum(lack_floor(table, power, s, bundle_of(s, at)) for s, at in enumerate(item["at"]))
+    return weighted.weight_of_all(item["cycles"]) > item["den"] * (rounded - 1)

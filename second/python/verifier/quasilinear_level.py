@@ -14,7 +14,7 @@ WIDEST_VALUE = 2**120
 
 def clauses(table, item):
     """Yields the clauses of the item, in order."""
-    num, den, walk, values = item["num"], item["den"], item["walk"], item["values"]
+    num, den, walk, values = item["num"], item["den"], item["cycle"], item["values"]
     count = len(table.observations)
     yield "the denominator is 0", 0, den >= 1
     yield "the walk has more steps than there are observations", 1, len(walk) <= count + 1

@@ -25,9 +25,9 @@ def clauses(table, item):
         yield "the ranks do not respect the preference", s + 1, all(ranks[t] < ranks[s] for t in left)
     cost = sum(saved(table, s, t - 1) for s in table.observations for t in taken[s])
     yield "the steps cost another sum", 0, cost == item["cost"]
-    yield from weighted.of_walks(table, item["walks"])
+    yield from weighted.of_cycles(table, item["cycles"])
     by_step = lambda s, t, leaving: sum(weight for u, weight in leaving if u == t)
-    yield from weighted.of_loads(table, item["walks"], item["den"], by_step, lambda s, t: saved(table, s, t))
+    yield from weighted.of_loads(table, item["cycles"], item["den"], by_step, lambda s, t: saved(table, s, t))
 
 
 def saved(table, s, t):
@@ -38,10 +38,9 @@ def saved(table, s, t):
 def bounds(table, item):
     """Returns the two bounds on the index that accepted evidence proves."""
     spent = sum(table.cost(s, s) for s in table.observations)
-    weight = sum(own for _, own in item["walks"])
-    return Fraction(weight, item["den"] * spent), Fraction(item["cost"], spent)
+    return Fraction(weighted.weight_of_all(item["cycles"]), item["den"] * spent), Fraction(item["cost"], spent)
 
 
 def is_exact(table, item):
     """Whether no sum of whole numbers lies between the two bounds on the cost."""
-    return sum(own for _, own in item["walks"]) > item["den"] * (item["cost"] - 1)
+    return weighted.weight_of_all(item["cycles"]) > item["den"] * (item["cost"] - 1)

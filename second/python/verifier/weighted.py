@@ -11,12 +11,17 @@ from . import walks
 LOADED = "the walks load a step or a level of this observation more than they may"
 
 
-def of_walks(table, weighted):
+def of_cycles(table, cycles):
     """Each walk has some weight, is closed, has strict steps alone, and goes through no observation twice."""
     strict = walks.strictly_preferred(table)
-    for number, (walk, weight) in enumerate(weighted, 1):
-        yield "the weight is 0", number, weight >= 1
-        yield "this is no closed walk of strict steps through distinct observations", number, is_simple(table, walk, strict)
+    for number, each in enumerate(cycles, 1):
+        yield "the weight is 0", number, each["weight"] >= 1
+        yield "this is no closed walk of strict steps through distinct observations", number, is_simple(table, each["cycle"], strict)
+
+
+def weight_of_all(cycles):
+    """The weights of all cycles."""
+    return sum(each["weight"] for each in cycles)
 
 
 def is_simple(table, walk, strict):
@@ -27,14 +32,14 @@ def is_simple(table, walk, strict):
     return len(set(walk[:-1])) == len(walk) - 1 and all(t in strict[s] for s, t in walks.steps_of(walk))
 
 
-def of_loads(table, weighted, den, load, limit):
+def of_loads(table, cycles, den, load, limit):
     """No strict step from an observation carries more than the denominator times its limit.
 
     `load` says what loads the step from s to t, of the steps from s with their weights; `limit` what that step may carry."""
     strict = walks.strictly_preferred(table)
     leaving = {s: [] for s in table.observations}
-    for walk, weight in weighted:
-        for s, u in walks.steps_of(walk):
-            leaving[s].append((u, weight))
+    for each in cycles:
+        for s, u in walks.steps_of(each["cycle"]):
+            leaving[s].append((u, each["weight"]))
     for s in table.observations:
         yield LOADED, s + 1, all(load(s, t, leaving[s]) <= den * limit(s, t) for t in strict[s])
