@@ -59,14 +59,26 @@ let check_random budgets_name choices_name certificate_name per =
   | Refused why -> raise (Ended (4, fault_line (refusal_fault why)))
   | Prepared shares -> check_choices shares (certificate_of read_random certificate_name)
 
+(* The theorems that an accepted certificate on goodness of fit gives. *)
+let theorem_of_fit table_name table_text certificate_name certificate_text =
+  ignore (numbers_of read_table table_name);
+  match judge_fit (bytes_of table_text) (bytes_of certificate_text) with
+  | Some (tb, claims) ->
+      (0, Theorem.write_fit ~table_name ~table_text ~certificate_name ~certificate_text tb claims)
+  | None -> (1, "rejected fit\n")
+
 (* The theorems that an accepted certificate on a table gives. *)
 let theorem table_name certificate_name =
   let table_text = read_file 4_194_304 table_name and certificate_text = read_file 16_777_216 certificate_name in
-  let tb = numbers_of read_table table_name and certificate = certificate_of read_certificate certificate_name in
-  match check_certificate tb certificate with
-  | Accepted _ ->
-      (0, Theorem.write ~table_name ~table_text ~certificate_name ~certificate_text tb (List.map claim_of certificate.items))
-  | other -> answer other
+  match read_fit (bytes_of certificate_text) with
+  | Inr _ -> theorem_of_fit table_name table_text certificate_name certificate_text
+  | Inl _ ->
+      let tb = numbers_of read_table table_name and certificate = certificate_of read_certificate certificate_name in
+      match check_certificate tb certificate with
+      | Accepted _ ->
+          (0, Theorem.write ~table_name ~table_text ~certificate_name ~certificate_text tb
+              (List.map claim_of certificate.items))
+      | other -> answer other
 
 (* The same of random choices; their shares are taken as they are, or rounded to units of 1/N. *)
 let theorem_of_choices budgets_name choices_name certificate_name per =

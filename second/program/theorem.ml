@@ -361,6 +361,117 @@ let write_pump ~table_name ~table_text tb e index =
     [ table_denoted "judge_pump_sound";
       ("money_pump_is", sprintf "pump_index observed %s" (fraction index), "proj2 (proj2 (judge_pump_sound judged))") ]
 
+(* ---- goodness of fit ---- *)
+
+let steps_text l = sprintf "[%s]%%nat" (String.concat "; " (List.map (fun (s, t) -> sprintf "(%d, %d)" s t) l))
+let some_steps l = if l = [] then "(@nil (nat * nat))" else steps_text l
+let loss squared = if squared then "rest_squared" else "rest"
+
+let fit_claim_text = function
+  | CountsAre (g, o, k, w, s) -> sprintf "CountsAre %d %d %d %d %d" g o k w s
+  | FitEfficiency it -> sprintf "FitEfficiency (%s)" (claim_text it)
+  | KeptAre (ones, most) -> sprintf "KeptAre %s %d" (whole_numbers ones) most
+  | MeanBetween (squared, low, high) -> sprintf "MeanBetween %b %s %s" squared (fraction low) (fraction high)
+  | StepsBetween (given_up, low, high) ->
+      sprintf "StepsBetween %s %s %s" (some_steps given_up) (fraction low) (fraction high)
+  | PumpIs v -> sprintf "PumpIs %s" (fraction v)
+  | QuasilinearLevelIs v -> sprintf "QuasilinearLevelIs %s" (fraction v)
+  | HomotheticBetween (low, high) -> sprintf "HomotheticBetween %s %s" (number low) (number high)
+
+(* What a claim states, and how it follows from [it]. *)
+let stated_fit = function
+  | CountsAre (g, o, k, w, s) ->
+      let count (name, how, of_, many, from) = (name, sprintf "%s observed (%s observed) %d" how of_ many, from) in
+      List.map count
+        [ ("garp_pairs_are", "pairs_in", "garp_pair", g, "proj1 it");
+          ("garp_observations_are", "observations_in", "garp_pair", o, "proj1 (proj2 it)");
+          ("wgarp_pairs_are", "pairs_in", "wgarp_pair", k, "proj1 (proj2 (proj2 it))");
+          ("warp_pairs_are", "pairs_in", "warp_pair", w, "proj1 (proj2 (proj2 (proj2 it)))");
+          ("sarp_pairs_are", "pairs_in", "sarp_pair", s, "proj2 (proj2 (proj2 (proj2 it)))") ]
+  | FitEfficiency it -> stated it
+  | KeptAre (ones, most) ->
+      [ ("kept_can_be_kept", sprintf "can_be_kept observed %s" (whole_numbers ones), "proj1 it");
+        ("no_more_can_be_kept", sprintf "kept_at_most observed %d" most, "proj2 it") ]
+      @ if List.length ones = most then
+          [ ("kept_is", sprintf "kept_index observed %d" most, "kept_index_of _ _ _ (proj1 it) (proj2 it) eq_refl") ]
+        else []
+  | MeanBetween (squared, low, high) ->
+      [ ((if squared then "squares_between" else "levels_between"),
+         sprintf "mean_at_least observed %s %s /\\\n  mean_at_most observed %s %s" (loss squared) (fraction low)
+           (loss squared) (fraction high), "it") ]
+  | StepsBetween (given_up, low, high) ->
+      [ ("steps_given_up", sprintf "enough_given_up observed %s" (some_steps given_up), "proj1 it");
+        ("steps_between", sprintf "steps_at_least observed %s /\\ steps_at_most observed %s" (fraction low) (fraction high),
+         "proj2 it") ]
+  | PumpIs v -> [ ("money_pump_is", sprintf "pump_index observed %s" (fraction v), "it") ]
+  | QuasilinearLevelIs v -> [ ("quasilinear_level_is", sprintf "quasilinear_level observed %s" (fraction v), "it") ]
+  | HomotheticBetween (low, high) ->
+      [ ("homothetic_level_between",
+         sprintf "homothetic_at_least observed %s (2 ^ 40) /\\\n  homothetic_at_most observed %s (2 ^ 40)" (number low)
+           (number high), "it") ]
+
+(* The same of people over every ordered field. *)
+let stated_fit_over = function
+  | FitEfficiency it -> stated_over it
+  | KeptAre (ones, most) ->
+      [ ("kept_utility_over", sprintf "some_utility_at K observed %s (fun _ => 1%%Q)" (whole_numbers ones), "proj1 it");
+        ("no_consumer_kept_more_over",
+         "forall among prefers, NoDup among ->\n    Forall (fun s => (s < size observed)%nat) among -> preference_over K (goods observed) prefers ->\n"
+         ^ "    monotone_over K (goods observed) prefers \\/ nonsatiated_over K (goods observed) prefers ->\n"
+         ^ sprintf "    rationalizes_at K observed among (fun _ => 1%%Q) prefers -> (List.length among <= %d)%%nat" most,
+         "fun among prefers d i p w r => proj2 it among prefers d i (conj p w) r") ]
+  | MeanBetween (squared, low, high) ->
+      let name text = if squared then "squares_" ^ text else "levels_" ^ text in
+      [ (name "of_some_consumer_over",
+         sprintf "forall w,\n    (%s * inject_Z (Z.of_nat (size observed)) < w)%%Q -> exists e, level_vector observed e /\\\n" (fraction high)
+         ^ sprintf "    some_utility_at K observed (seq 0 (size observed)) e /\\ (lost observed %s e < w)%%Q" (loss squared),
+         "proj1 it");
+        (name "of_consumers_over",
+         "forall e prefers, level_vector observed e ->\n    preference_over K (goods observed) prefers ->\n"
+         ^ "    monotone_over K (goods observed) prefers \\/ nonsatiated_over K (goods observed) prefers ->\n"
+         ^ "    rationalizes_at K observed (seq 0 (size observed)) e prefers ->\n"
+         ^ sprintf "    (%s * inject_Z (Z.of_nat (size observed)) <= lost observed %s e)%%Q" (fraction low) (loss squared),
+         "fun e prefers v p w r => proj2 it e prefers v (conj p w) r") ]
+  | _ -> []
+
+let write_fit ~table_name ~table_text ~certificate_name ~certificate_text tb claims =
+  let out = Buffer.create 65536 in
+  let say form = say_to out form in
+  head out (sprintf "the goodness of fit of the table %s, from the certificate %s" (comment table_name)
+      (comment certificate_name)) "JudgeFit Reals";
+  say "(* The bytes of both files. *)";
+  say "Definition table_file : bytes := %s.\n" (literal table_text);
+  say "Definition certificate_file : bytes := %s.\n" (literal certificate_text);
+  say_table out tb;
+  say "(* Observations count from 0. *)";
+  say "Definition claims : list fit_claim := [%s].\n" (String.concat ";\n  " (List.map fit_claim_text claims));
+  say "Lemma judged : judge_fit table_file certificate_file = Some (observed, claims).";
+  say "Proof. vm_cast_no_check (eq_refl (Some (observed, claims))). Qed.\n";
+  say "(* The table is what the bytes denote, and they denote no other. *)";
+  say "Theorem table_denoted : denotes table_file observed /\\ forall other, denotes table_file other -> other = observed.";
+  say "Proof. exact (fit_denoted judged). Qed.\n";
+  let fresh = fresh_names () and names = ref [ "table_denoted" ] and over = ref [] in
+  List.iteri (fun k claim ->
+      List.iter (fun (name, statement, proof) ->
+          let name = fresh name in
+          names := name :: !names;
+          say "Theorem %s : %s." name statement;
+          say "Proof. pose (it := judged_fit judged %d%%nat eq_refl). exact (%s). Qed.\n" k proof)
+        (stated_fit claim))
+    claims;
+  say "(* What they say of people whose goods are divided as any ordered field has it. *)";
+  List.iteri (fun k claim ->
+      List.iter (fun (name, statement, proof) ->
+          let name = fresh name in
+          names := name :: !names;
+          over := (name ^ " reals") :: !over;
+          say "Theorem %s : forall K, %s." name statement;
+          say "Proof. intros K. pose (it := judged_fit_over judged %d%%nat eq_refl K). exact (%s). Qed.\n" k proof)
+        (stated_fit_over claim))
+    claims;
+  foot out !names !over;
+  Buffer.contents out
+
 (* ---- producers ---- *)
 
 let bound_text = function
