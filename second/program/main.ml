@@ -169,10 +169,49 @@ let theorem_of_cost production_name result_name =
   | None, Some _ -> (1, "rejected cost\n")
   | None, None -> raise (Ended (4, production_name ^ ": no production"))
 
+(* Choices from menus as theorems, from what `rp menus` writes of them. *)
+let theorem_of_menus menus_name result_name =
+  let menus_text = read_file 4_194_304 menus_name in
+  let picks = match read_menus (bytes_of menus_text) with
+    | Some picks -> picks
+    | None -> raise (Ended (4, menus_name ^ ": no menus")) in
+  let lines = List.map (String.split_on_char ' ') (String.split_on_char '\n' (read_file 4_194_304 result_name)) in
+  let once l = List.rev (List.fold_left (fun kept a -> if List.mem a kept then kept else a :: kept) [] l) in
+  let chosen = List.filter (fun p -> Z.sign p.pick_times > 0) picks in
+  let cells_of menu = List.filter_map (fun p -> if p.pick_menu = menu then Some p.pick_choice else None) chosen in
+  let cells = List.concat_map (fun menu -> List.map (fun x -> (menu, x)) (once (cells_of menu)))
+      (once (List.map (fun p -> p.pick_menu) chosen)) in
+  let letter word = if String.length word = 1 then Z.of_int (Char.code word.[0]) else failwith "" in
+  let rec part before = function
+    | [ "weight"; v ] -> (Z.of_string v, List.rev before)
+    | word :: rest -> part (letter word :: before) rest
+    | [] -> failwith "" in
+  let evidence () =
+    let total = match List.concat (List.filter (fun l -> List.mem "alternatives" l) lines) with
+      | [ _; _; _; _; _; _; _; _; _; total ] -> Z.of_string total
+      | _ -> failwith "" in
+    let parts = List.filter_map (function "part" :: rest -> Some (part [] rest) | _ -> None) lines in
+    let made den dual_den chosen_weights =
+      { parts_den = Z.mul den total; ranking_parts = parts; dual_den; chosen_weights } in
+    match List.find_opt (fun l -> List.hd l = "menus") lines, List.find_opt (fun l -> List.hd l = "weights") lines with
+    | Some [ _; "mixture"; "over"; den ], None -> made (Z.of_string den) Z.one []
+    | Some (_ :: "violated" :: _), Some (_ :: weights) ->
+        (match List.rev weights with
+         | den :: "over" :: weights when List.length weights = List.length cells ->
+             let den = Z.of_string den in
+             made den den (List.combine cells (List.rev_map Z.of_string weights))
+         | _ -> failwith "")
+    | _ -> failwith "" in
+  let evidence = try evidence () with Failure _ | Invalid_argument _ -> raise (Ended (4, result_name ^ ": NoMenus")) in
+  match judge_menus (bytes_of menus_text) evidence with
+  | Some (picks, claim) -> (0, Theorem.write_menus ~menus_name ~menus_text picks evidence claim)
+  | None -> (1, "rejected menus\n")
+
 let usage =
   "usage: rp-second TABLE CERT\n       rp-second BUDGETS CHOICES CERT [--per N]\n       rp-second --theorem TABLE CERT\n"
   ^ "       rp-second --theorem BUDGETS CHOICES CERT [--per N]\n       rp-second --theorem --pairs TABLE\n"
-  ^ "       rp-second --theorem --pump TABLE RESULT\n       rp-second --theorem --cost TECH [RESULT]"
+  ^ "       rp-second --theorem --pump TABLE RESULT\n       rp-second --theorem --cost TECH [RESULT]\n"
+  ^ "       rp-second --theorem --menus FILE RESULT"
 
 (* The names of files, and N: `--per N` or `--per=N` anywhere, and after `--` all words are names. *)
 let rec words_of names per = function
@@ -190,6 +229,7 @@ and with_per names per n rest =
 let answer_to words =
   match words with
   | [ "--theorem"; "--pairs"; table ] when table <> "" -> theorem_of_pairs table
+  | [ "--theorem"; "--menus"; menus; result ] when menus <> "" && result <> "" -> theorem_of_menus menus result
   | [ "--theorem"; "--cost"; production ] when production <> "" -> theorem_of_cost production None
   | [ "--theorem"; "--cost"; production; result ] when production <> "" && result <> "" ->
       theorem_of_cost production (Some result)

@@ -562,6 +562,44 @@ let write_production ~production_name ~production_text plans questions found =
   foot out !names !over;
   Buffer.contents out
 
+(* ---- menus ---- *)
+
+let write_menus ~menus_name ~menus_text picks e claim =
+  let out = Buffer.create 65536 in
+  let say form = say_to out form in
+  head out (sprintf "the choices from menus %s" (comment menus_name)) "JudgeMenus Reals";
+  say "(* The bytes of the file. *)";
+  say "Definition menus_file : bytes := %s.\n" (literal menus_text);
+  say "(* Of each record the menu, what was chosen, and how many times; letters by their bytes. *)";
+  say "Definition observed : list pick := [\n  %s].\n" (String.concat ";\n  "
+      (List.map (fun p -> sprintf "Pick %s %s %s" (numbers p.pick_menu) (number p.pick_choice) (number p.pick_times)) picks));
+  say "(* Rankings with their weights, and weights of what was chosen. *)";
+  say "Definition evidence : menus_evidence := MenusEvidence %s [%s] %s [%s].\n" (number e.parts_den)
+    (String.concat ";\n  " (List.map (fun (v, o) -> sprintf "(%s, %s)" (number v) (numbers o)) e.ranking_parts)) (number e.dual_den)
+    (String.concat ";\n  "
+       (List.map (fun ((m, x), w) -> sprintf "(%s, %s, %s)" (numbers m) (number x) (number w)) e.chosen_weights));
+  let claimed = match claim with SomeRankings -> "SomeRankings" | NoRankings v -> sprintf "(NoRankings %s)" (fraction v) in
+  say "Lemma judged : judge_menus menus_file evidence = Some (observed, %s)." claimed;
+  say "Proof. vm_cast_no_check (eq_refl (Some (observed, %s))). Qed.\n" claimed;
+  say "(* The choices are what the bytes denote, and they denote no other. *)";
+  say "Theorem menus_are : menus_denote menus_file observed /\\";
+  say "  forall other, menus_denote menus_file other -> other = observed.";
+  say "Proof. exact (proj1 (judge_menus_sound judged)). Qed.\n";
+  say "(* What is said of populations whose weights are numbers of any ordered field. *)";
+  let names = ref [ "menus_are" ] and over = ref [] in
+  List.iter (fun (name, statement, proof) ->
+      names := name :: !names;
+      over := (name ^ " reals") :: !over;
+      say "Theorem %s : forall K, %s." name statement;
+      say "Proof. intros K. pose (it := proj2 (judge_menus_sound judged) K). exact (%s). Qed.\n" proof)
+    (match claim with
+     | SomeRankings -> [ ("rationalized", "rationalized_by_rankings K observed", "it") ]
+     | NoRankings v ->
+         [ ("not_rationalizable", "not_rationalizable_by_rankings K observed", "proj1 it");
+           ("greatest_share_is", sprintf "greatest_share_of_rankings K observed %s" (fraction v), "proj2 it") ]);
+  foot out !names !over;
+  Buffer.contents out
+
 (* ---- random choices ---- *)
 
 (* What a claim states of populations over every ordered field, and how it follows. *)
