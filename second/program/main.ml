@@ -80,6 +80,19 @@ let theorem table_name certificate_name =
               (List.map claim_of certificate.items))
       | other -> answer other
 
+(* The same of one unit of a long file. *)
+let theorem_of_unit id_name id long_name certificate_name =
+  let long_text = read_file 67_108_864 long_name and certificate_text = read_file 16_777_216 certificate_name in
+  match read_unit (bytes_of id_name) (bytes_of id) (bytes_of long_text) with
+  | None -> raise (Ended (4, long_name ^ ": no table of this unit"))
+  | Some tb ->
+      let certificate = certificate_of read_certificate certificate_name in
+      match check_certificate tb certificate with
+      | Accepted _ ->
+          (0, Theorem.write ~of_unit:(id_name, id) ~table_name:long_name ~table_text:long_text ~certificate_name
+              ~certificate_text tb (List.map claim_of certificate.items))
+      | other -> answer other
+
 (* The same of random choices; their shares are taken as they are, or rounded to units of 1/N. *)
 let theorem_of_choices budgets_name choices_name certificate_name per =
   let text limit name = read_file limit name in
@@ -211,7 +224,7 @@ let usage =
   "usage: rp-second TABLE CERT\n       rp-second BUDGETS CHOICES CERT [--per N]\n       rp-second --theorem TABLE CERT\n"
   ^ "       rp-second --theorem BUDGETS CHOICES CERT [--per N]\n       rp-second --theorem --pairs TABLE\n"
   ^ "       rp-second --theorem --pump TABLE RESULT\n       rp-second --theorem --cost TECH [RESULT]\n"
-  ^ "       rp-second --theorem --menus FILE RESULT"
+  ^ "       rp-second --theorem --menus FILE RESULT\n       rp-second --theorem --panel LONG ID CERT [--id NAME]"
 
 (* The names of files, and N: `--per N` or `--per=N` anywhere, and after `--` all words are names. *)
 let rec words_of names per = function
@@ -229,6 +242,8 @@ and with_per names per n rest =
 let answer_to words =
   match words with
   | [ "--theorem"; "--pairs"; table ] when table <> "" -> theorem_of_pairs table
+  | [ "--theorem"; "--panel"; long; id; certificate ] -> theorem_of_unit "household" id long certificate
+  | [ "--theorem"; "--panel"; long; id; certificate; "--id"; name ] -> theorem_of_unit name id long certificate
   | [ "--theorem"; "--menus"; menus; result ] when menus <> "" && result <> "" -> theorem_of_menus menus result
   | [ "--theorem"; "--cost"; production ] when production <> "" -> theorem_of_cost production None
   | [ "--theorem"; "--cost"; production; result ] when production <> "" && result <> "" ->

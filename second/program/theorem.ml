@@ -260,42 +260,58 @@ let say_table out tb =
   rows "observed_quantities" tb.quantities;
   say "Definition observed : table := Table observed_prices observed_quantities %s.\n" (numbers tb.levels)
 
-let write ~table_name ~table_text ~certificate_name ~certificate_text tb claims =
+let write ?of_unit ~table_name ~table_text ~certificate_name ~certificate_text tb claims =
   let out = Buffer.create 65536 in
   let say form = say_to out form in
-  head out (sprintf "the table %s, from the certificate %s" (comment table_name) (comment certificate_name))
-    "Judge SpecOver OverClaims Reals";
+  (* Of a table alone; or of a unit of a long file, by the name of the column of ids and by its id. *)
+  let what, modules, judge, denotes, sound, claim, over =
+    match of_unit with
+    | None ->
+        (sprintf "the table %s" (comment table_name), "Judge SpecOver OverClaims Reals", "judge table_file",
+         "denotes table_file", "judged_table", "judge_claim", "judge_claim_over")
+    | Some (id_name, id) ->
+        (sprintf "the unit %s of %s" (comment id) (comment table_name), "JudgePanel Reals",
+         "judge_unit id_name id table_file", "unit_denotes id_name id table_file", "unit_denoted", "unit_claim",
+         "unit_claim_over") in
+  head out (sprintf "%s, from the certificate %s" what (comment certificate_name)) modules;
   say "(* The bytes of both files. *)";
   say "Definition table_file : bytes := %s.\n" (literal table_text);
   say "Definition certificate_file : bytes := %s.\n" (literal certificate_text);
+  (match of_unit with
+   | None -> ()
+   | Some (id_name, id) ->
+       say "(* The name of the column of ids, and the unit's id. *)";
+       say "Definition id_name : bytes := %s." (literal id_name);
+       say "Definition id : bytes := %s.\n" (literal id));
   say_table out tb;
   say "Definition claims : list claim := [%s].\n" (String.concat ";\n  " (List.map claim_text claims));
-  say "Lemma judged : judge table_file certificate_file = Some (observed, claims).";
+  say "Lemma judged : %s certificate_file = Some (observed, claims)." judge;
   say "Proof. vm_cast_no_check (eq_refl (Some (observed, claims))). Qed.\n";
   say "(* The table is what the bytes denote, and they denote no other. *)";
-  say "Theorem table_denoted : denotes table_file observed /\\ forall other, denotes table_file other -> other = observed.";
-  say "Proof. exact (judged_table judged). Qed.\n";
+  say "Theorem table_denoted : %s observed /\\" denotes;
+  say "  forall other, %s other -> other = observed." denotes;
+  say "Proof. exact (%s judged). Qed.\n" sound;
   let fresh = fresh_names () and names = ref [ "table_denoted" ] in
-  List.iteri (fun k claim ->
+  List.iteri (fun k it ->
       List.iter (fun (name, statement, proof) ->
           let name = fresh name in
           names := name :: !names;
           say "Theorem %s : %s." name statement;
-          say "Proof. pose (it := judge_claim judged %d%%nat eq_refl). exact (%s). Qed.\n" k proof)
-        (stated claim))
+          say "Proof. pose (it := %s judged %d%%nat eq_refl). exact (%s). Qed.\n" claim k proof)
+        (stated it))
     claims;
   say "(* What they say of people whose goods are divided as any ordered field has it. *)";
-  let over = ref [] in
-  List.iteri (fun k claim ->
+  let with_reals = ref [] in
+  List.iteri (fun k it ->
       List.iter (fun (name, statement, proof) ->
           let name = fresh name in
           names := name :: !names;
-          over := (name ^ " reals") :: !over;
+          with_reals := (name ^ " reals") :: !with_reals;
           say "Theorem %s : forall K, %s." name statement;
-          say "Proof. intros K. pose (it := judge_claim_over judged %d%%nat eq_refl K). exact (%s). Qed.\n" k proof)
-        (stated_over claim))
+          say "Proof. intros K. pose (it := %s judged %d%%nat eq_refl K). exact (%s). Qed.\n" over k proof)
+        (stated_over it))
     claims;
-  foot out !names !over;
+  foot out !names !with_reals;
   Buffer.contents out
 
 (* ---- a table without a certificate ---- *)
