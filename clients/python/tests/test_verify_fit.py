@@ -307,6 +307,7 @@ FORGED = {
         (("cycle",), [1, 3, 1], "Number place 2"),
         (("cycle",), [1, 2], "NotClosed place 0"),
         (("num",), "2", "Bound place 0"),
+        (("num",), "0", "Bound place 0"),
         (("cycle",), [2, 2], "Bound place 0"),
         (("values",), ["0"], "Shape place 2"),
         (("values", 1), str(2**121 + 1), "Number place 2"),
@@ -319,6 +320,7 @@ FORGED = {
         (("cycle",), [3, 2, 3], "Number place 1"),
         (("cycle",), [2, 1], "NotClosed place 0"),
         (("num",), "3", "Bound place 0"),
+        (("num",), "5", "Bound place 0"),
         (("values",), ["0", "0", "0"], "Shape place 2"),
         (("values", 0), str(-(2**120) - 1), "Number place 1"),
         (("values", 0), "1", "Order place 2"),
@@ -508,6 +510,48 @@ class ForgedItems(unittest.TestCase):
             }
             self.assertEqual(
                 looked_at(table, forged).line, "rejected item 1 Set place 1"
+            )
+
+    def test_walks_through_distinct_observations(self):
+        # Costs 6, 2, 4, 9; 2, 6, 9, 9; 4, 9, 6, 9; 9, 9, 9, 6: a walk goes through 1 twice, with no more steps than there are observations.
+        table = b"p_a,p_b,p_c,p_d,q_a,q_b,q_c,q_d\n6,2,4,9,1,0,0,0\n2,6,9,9,0,1,0,0\n4,9,6,9,0,0,1,0\n9,9,9,6,0,0,0,1\n"
+        each = {"cycle": [1, 2, 1, 3, 1], "weight": "1"}
+        levels = {
+            "item": "levels",
+            "measure": "mean",
+            "at": [2, 0, 0, 0],
+            "ranks": [1, 2, 2, 1],
+            "den": "1",
+            "cycles": [each],
+        }
+        steps = {
+            "item": "steps",
+            "taken": [[2, 3], [], [], []],
+            "cost": "6",
+            "ranks": [1, 2, 2, 1],
+            "den": "1",
+            "cycles": [each],
+        }
+        singles = [{"pairs": [s], "weight": "1"} for s in (1, 2, 3, 4)]
+        kept = {
+            "item": "kept",
+            "kept": [2, 3, 4],
+            "ranks": [1, 1, 1],
+            "den": "1",
+            "groups": [*singles, each],
+            "most": "7",
+        }
+        for item, place in ((levels, 1), (steps, 1), (kept, 5)):
+            self.assertEqual(
+                looked_at(table, item).line, f"rejected item 1 Set place {place}"
+            )
+            name = "groups" if item is kept else "cycles"
+            simple = changed(item, (name, place - 1, "cycle"), [1, 2, 1])
+            self.assertEqual(
+                looked_at(
+                    table, {**simple, "most": "5"} if item is kept else simple
+                ).line,
+                "accepted items 1",
             )
 
     def test_an_index_that_is_not_attained(self):
