@@ -16,7 +16,17 @@ from scipy.sparse import csr_matrix
 import exact_fit
 
 # HiGHS looks at the clock alone: how many seconds of it a second of a processor took, call by call.
-CLOCK = [1.0]
+CLOCK = []
+
+
+def clock():
+    """Returns how many seconds of the clock a second of a processor takes, by the last call or else by turning a while."""
+    if not CLOCK:
+        began, of_clock = time.process_time(), time.perf_counter()
+        while time.process_time() - began < 0.3:
+            pass
+        CLOCK.append(max(1.0, (time.perf_counter() - of_clock) / 0.3))
+    return CLOCK[-1]
 
 
 class Program:
@@ -63,7 +73,7 @@ class Program:
         shape = (len(self.right), len(self.objective))
         matrix = csr_matrix((self.entries, (self.rows, self.columns)), shape=shape)
         rows = LinearConstraint(matrix, -numpy.inf, self.right)
-        options = {"time_limit": seconds * CLOCK[-1], "mip_rel_gap": 0}
+        options = {"time_limit": seconds * clock(), "mip_rel_gap": 0}
         began, of_clock = time.process_time(), time.perf_counter()
         found = milp(self.objective, integrality=self.is_whole, bounds=Bounds(0, 1), constraints=rows, options=options)
         taken = time.process_time() - began
