@@ -7,46 +7,14 @@ import os
 from typing import Any, Callable, Union
 
 from . import advice, exact, program, verifier
-from .answers import (
-    Answers,
-    Certificate,
-    Checked,
-    Patch,
-    RandomVerdict,
-    Verdict,
-    demands,
-    patches_of,
-    reading,
-    utilities,
-    walk_of,
-    welfares,
-)
+from .answers import Answers, Certificate, Checked, Patch, RandomVerdict, Verdict, demands, patches_of, reading, utilities, walk_of, welfares
 from .catalogue import DRAWS, PER, SEED, span
 from .faults import BadData, Failed, NoFile, Refused
 from .measures import CostMinimisation, MenuVerdict, MoneyPump, Power, Trial
-from .tables import (
-    DEFAULT,
-    OWN_MONEY,
-    Choices,
-    Forms,
-    MenuChoices,
-    Sheet,
-    Table,
-    Technology,
-    beside,
-    forms_of,
-    table,
-    takes_places,
-)
+from .tables import DEFAULT, OWN_MONEY, Choices, Forms, MenuChoices, Sheet, Table, Technology, beside, forms_of, table, takes_places
 from .verifier import Findings, reports
 
-TABLE, NEW, BUDGETS, CHOICES, CERTIFICATE = (
-    "table.csv",
-    "new.csv",
-    "budgets.csv",
-    "choices.csv",
-    "certificate.json",
-)
+TABLE, NEW, BUDGETS, CHOICES, CERTIFICATE = "table.csv", "new.csv", "budgets.csv", "choices.csv", "certificate.json"
 MENUS, TECHNOLOGY, ASKED = "menus.csv", "technology.csv", "asked.csv"
 Explains = Callable[[Union[str, None], str, "dict[str, int]"], Exception]
 
@@ -55,16 +23,7 @@ Explains = Callable[[Union[str, None], str, "dict[str, int]"], Exception]
 
 
 @takes_places
-def analyse(
-    p: Any,
-    q: Any = None,
-    *,
-    levels: Any = None,
-    decimals: Any = None,
-    numbers: Any = "shortest",
-    exe: Any = None,
-    wide: bool = True,
-) -> Verdict:
+def analyse(p: Any, q: Any = None, *, levels: Any = None, decimals: Any = None, numbers: Any = "shortest", exe: Any = None, wide: bool = True) -> Verdict:
     """Tests a table: GARP, Afriat's inequalities, HARP and quasilinear utility, with the CCEI. Returns a Verdict.
 
     `p` and `q` are prices and quantities: two lists of rows, two arrays, or two frames. Or give one table or frame alone, as `p`.
@@ -93,40 +52,18 @@ def analyse(
 
 
 @takes_places
-def certify(
-    p: Any,
-    q: Any = None,
-    *,
-    levels: Any = None,
-    decimals: Any = None,
-    numbers: Any = "shortest",
-    exe: Any = None,
-    wide: bool = True,
-) -> Certificate:
+def certify(p: Any, q: Any = None, *, levels: Any = None, decimals: Any = None, numbers: Any = "shortest", exe: Any = None, wide: bool = True) -> Certificate:
     """Returns the Certificate of the verdicts of `analyse`: all evidence as JSON.
 
     References:
         Afriat, S. N. (1967). The Construction of Utility Functions from Expenditure Data. International Economic Review 8, 67-77.
         Varian, H. R. (1982). The Nonparametric Approach to Demand Analysis. Econometrica 50, 945-973.
     """
-    return _certificate(
-        ["certify", TABLE],
-        [table(p, q, decimals=decimals, numbers=numbers, levels=levels)],
-        exe,
-        wide,
-    )
+    return _certificate(["certify", TABLE], [table(p, q, decimals=decimals, numbers=numbers, levels=levels)], exe, wide)
 
 
 @takes_places
-def pairs(
-    p: Any,
-    q: Any = None,
-    *,
-    levels: Any = None,
-    decimals: Any = None,
-    numbers: Any = "shortest",
-    exe: Any = None,
-) -> tuple[Any, Any] | None:
+def pairs(p: Any, q: Any = None, *, levels: Any = None, decimals: Any = None, numbers: Any = "shortest", exe: Any = None) -> tuple[Any, Any] | None:
     """Finds the first two rows of which each is revealed preferred to the other, at least once strictly. Returns their labels, or None.
 
     It is a quick look: `analyse` also finds longer cycles.
@@ -145,15 +82,7 @@ def pairs(
 
 
 @takes_places
-def pump(
-    p: Any,
-    q: Any = None,
-    *,
-    levels: Any = None,
-    decimals: Any = None,
-    numbers: Any = "shortest",
-    exe: Any = None,
-) -> MoneyPump:
+def pump(p: Any, q: Any = None, *, levels: Any = None, decimals: Any = None, numbers: Any = "shortest", exe: Any = None) -> MoneyPump:
     """Computes the maximum money pump index of a table, with a cycle that has it. Returns a MoneyPump.
 
     A table with levels is rejected. Intercepts of budget lines are rejected too, because each row then has its own unit of money. Echenique, Lee
@@ -166,25 +95,12 @@ def pump(
     own = table(p, q, decimals=decimals, numbers=numbers, levels=levels)
     if own.own_money:
         raise BadData(f"the money pump: {OWN_MONEY}")
-    return MoneyPump(
-        own,
-        program.answer(
-            ["pump", TABLE], {TABLE: own.csv()}, exe, _explains(own)
-        ).encode(),
-    )
+    return MoneyPump(own, program.answer(["pump", TABLE], {TABLE: own.csv()}, exe, _explains(own)).encode())
 
 
 @takes_places
 def power(
-    p: Any,
-    q: Any = None,
-    *,
-    seed: Any = 1,
-    draws: Any = 1000,
-    levels: Any = None,
-    decimals: Any = None,
-    numbers: Any = "shortest",
-    exe: Any = None,
+    p: Any, q: Any = None, *, seed: Any = 1, draws: Any = 1000, levels: Any = None, decimals: Any = None, numbers: Any = "shortest", exe: Any = None
 ) -> Power:
     """Draws 1 to 1,000 random behaviours on the budgets of a table, and counts the draws that violate GARP. Returns a Power.
 
@@ -197,33 +113,20 @@ def power(
         Harvey Mudd College, technical report HMC-CS-2014-0905.
     """
     own = table(p, q, decimals=decimals, numbers=numbers, levels=levels)
-    seed, draws = program.whole(seed, "seed", *SEED), program.whole(
-        draws, "draws", *DRAWS
-    )
-    out = program.answer(
-        ["power", TABLE, str(seed), str(draws)], {TABLE: own.csv()}, exe, _explains(own)
-    )
+    seed, draws = program.whole(seed, "seed", *SEED), program.whole(draws, "draws", *DRAWS)
+    out = program.answer(["power", TABLE, str(seed), str(draws)], {TABLE: own.csv()}, exe, _explains(own))
     return Power(own, out.encode(), seed, draws)
 
 
-def trial(
-    seed: Any, rows: Any, goods: Any, *, exe: Any = None, wide: bool = True
-) -> Trial:
+def trial(seed: Any, rows: Any, goods: Any, *, exe: Any = None, wide: bool = True) -> Trial:
     """Tests a table of pseudorandom numbers: 1 to 256 rows of 1 to 16 goods. Returns a Trial.
 
     References:
         O'Neill, M. E. (2014). PCG: A Family of Simple Fast Space-Efficient Statistically Good Algorithms for Random Number Generation.
         Harvey Mudd College, technical report HMC-CS-2014-0905.
     """
-    numbers = (
-        ("seed", seed, "SEED"),
-        ("rows", rows, "ROWS"),
-        ("goods", goods, "GOODS"),
-    )
-    words = [
-        program.whole(value, name, *span("trial", word))
-        for name, value, word in numbers
-    ]
+    numbers = (("seed", seed, "SEED"), ("rows", rows, "ROWS"), ("goods", goods, "GOODS"))
+    words = [program.whole(value, name, *span("trial", word)) for name, value, word in numbers]
     given = program.given(["trial", *map(str, words)], {}, exe, wide=wide)
     return Trial(given.out.encode(), _stated(given))
 
@@ -254,24 +157,12 @@ def demand(
     """
     own = table(p, q, decimals=decimals, numbers=numbers, levels=levels)
     sheet = _new(own, new, "p_", "m", m, forms=forms_of(decimals, numbers))
-    return demands(
-        own,
-        sheet,
-        _certificate(["demand", TABLE, NEW, "--json"], [own, sheet], exe, wide),
-    )
+    return demands(own, sheet, _certificate(["demand", TABLE, NEW, "--json"], [own, sheet], exe, wide))
 
 
 @takes_places
 def welfare(
-    p: Any,
-    q: Any = None,
-    new: Any = None,
-    *,
-    levels: Any = None,
-    decimals: Any = None,
-    numbers: Any = "shortest",
-    exe: Any = None,
-    wide: bool = True,
+    p: Any, q: Any = None, new: Any = None, *, levels: Any = None, decimals: Any = None, numbers: Any = "shortest", exe: Any = None, wide: bool = True
 ) -> Answers:
     """Computes bounds on the money metric: what it costs at new prices to be as well off as at each row. Returns `Answers` of `Welfare`.
 
@@ -282,24 +173,11 @@ def welfare(
     """
     own = table(p, q, decimals=decimals, numbers=numbers, levels=levels)
     sheet = _new(own, new, "p_", forms=forms_of(decimals, numbers))
-    return welfares(
-        own,
-        sheet,
-        _certificate(["welfare", TABLE, NEW, "--json"], [own, sheet], exe, wide),
-    )
+    return welfares(own, sheet, _certificate(["welfare", TABLE, NEW, "--json"], [own, sheet], exe, wide))
 
 
 @takes_places
-def utility(
-    p: Any,
-    q: Any = None,
-    bundles: Any = None,
-    *,
-    levels: Any = None,
-    decimals: Any = None,
-    numbers: Any = "shortest",
-    exe: Any = None,
-) -> Answers:
+def utility(p: Any, q: Any = None, bundles: Any = None, *, levels: Any = None, decimals: Any = None, numbers: Any = "shortest", exe: Any = None) -> Answers:
     """Computes the utility of bundles by Afriat's utility function, in the scale of the Afriat numbers: money where lambda is 1.
 
     References:
@@ -307,31 +185,14 @@ def utility(
     """
     own = table(p, q, decimals=decimals, numbers=numbers, levels=levels)
     sheet = _new(own, bundles, "q_", forms=forms_of(decimals, numbers))
-    return utilities(
-        own,
-        sheet,
-        program.answer(
-            ["utility", TABLE, NEW],
-            {TABLE: own.csv(), NEW: sheet.csv()},
-            exe,
-            _explains(own, sheet),
-        ),
-    )
+    return utilities(own, sheet, program.answer(["utility", TABLE, NEW], {TABLE: own.csv(), NEW: sheet.csv()}, exe, _explains(own, sheet)))
 
 
 # ---- firms, and choices of many people
 
 
 @takes_places
-def cost(
-    technology: Any,
-    asked: Any = None,
-    *,
-    decimals: Any = None,
-    numbers: Any = "shortest",
-    exe: Any = None,
-    wide: bool = True,
-) -> CostMinimisation:
+def cost(technology: Any, asked: Any = None, *, decimals: Any = None, numbers: Any = "shortest", exe: Any = None, wide: bool = True) -> CostMinimisation:
     """Tests whether a firm minimizes cost, and maximizes profit, and bounds what outputs cost at new input prices. Returns a `CostMinimisation`.
 
     `technology` is a frame with `w_NAME`, the price, and `x_NAME`, the amount used, for each input. Its column `y` has the output, and
@@ -341,42 +202,17 @@ def cost(
     References:
         Varian, H. R. (1984). The Nonparametric Approach to Production Analysis. Econometrica 52, 579-597.
     """
-    own = (
-        technology
-        if isinstance(technology, Technology)
-        else Technology(technology, decimals, numbers)
-    )
+    own = technology if isinstance(technology, Technology) else Technology(technology, decimals, numbers)
     first = dict(zip(own.names, own.rows[0])) if own.rows else {}
-    sheet = own.asked(
-        {
-            name: first.get(name)
-            for name in own.names
-            if name.startswith("w_") or name == "y"
-        }
-        if asked is None
-        else asked,
-        decimals,
-        numbers,
-    )
+    sheet = own.asked({name: first.get(name) for name in own.names if name.startswith("w_") or name == "y"} if asked is None else asked, decimals, numbers)
     files = {TECHNOLOGY: own.csv(), ASKED: sheet.csv()}
-    given = program.given(
-        ["cost", TECHNOLOGY, ASKED], files, exe, _explains(own, sheet), wide
-    )
-    return CostMinimisation(
-        own, sheet, given.out.encode(), asked is not None, _stated(given), given.hint
-    )
+    given = program.given(["cost", TECHNOLOGY, ASKED], files, exe, _explains(own, sheet), wide)
+    return CostMinimisation(own, sheet, given.out.encode(), asked is not None, _stated(given), given.hint)
 
 
 @takes_places
 def random(
-    budgets: Any,
-    choices: Any,
-    per: Any = None,
-    *,
-    decimals: Any = None,
-    numbers: Any = "shortest",
-    exe: Any = None,
-    wide: bool = True,
+    budgets: Any, choices: Any, per: Any = None, *, decimals: Any = None, numbers: Any = "shortest", exe: Any = None, wide: bool = True
 ) -> RandomVerdict:
     """Tests random utility: could a population of utility maximizers have made these choices from budgets? Returns a RandomVerdict.
 
@@ -395,23 +231,12 @@ def random(
         M. K. Richter (editors), Preferences, Uncertainty, and Optimality. Westview Press.
     """
     own = Choices(budgets, choices, per, forms_of(decimals, numbers))
-    out, is_wide = _of_choices(
-        ["random", BUDGETS, CHOICES, "--json", *_units(own.per)], own, exe, wide
-    )
+    out, is_wide = _of_choices(["random", BUDGETS, CHOICES, "--json", *_units(own.per)], own, exe, wide)
     return RandomVerdict(own, Certificate(out.encode()), is_wide)
 
 
 @takes_places
-def patches(
-    budgets: Any,
-    choices: Any,
-    per: Any = None,
-    *,
-    decimals: Any = None,
-    numbers: Any = "shortest",
-    exe: Any = None,
-    wide: bool = True,
-) -> list[Patch]:
+def patches(budgets: Any, choices: Any, per: Any = None, *, decimals: Any = None, numbers: Any = "shortest", exe: Any = None, wide: bool = True) -> list[Patch]:
     """Assigns choices from budgets to patches. Returns a list of Patch: the budget, the share of its choices, and the side of every budget.
 
     The arguments are those of `random`, and its verdict numbers patches in the same way.
@@ -420,15 +245,11 @@ def patches(
         Kitamura, Y. and Stoye, J. (2018). Nonparametric Analysis of Random Utility Models. Econometrica 86, 1883-1909.
     """
     own = Choices(budgets, choices, per, forms_of(decimals, numbers))
-    out, _ = _of_choices(
-        ["patches", BUDGETS, CHOICES, *_units(own.per)], own, exe, wide
-    )
+    out, _ = _of_choices(["patches", BUDGETS, CHOICES, *_units(own.per)], own, exe, wide)
     return patches_of(own, out)
 
 
-def _of_choices(
-    words: list[str], own: Choices, exe: Any, wide: bool
-) -> tuple[str, bool]:
+def _of_choices(words: list[str], own: Choices, exe: Any, wide: bool) -> tuple[str, bool]:
     """Returns the answer of words over choices from budgets, and whether that is the wider edition's."""
     files = {BUDGETS: own.budgets.csv(), CHOICES: own.choices.csv()}
     ran, is_wide = program.of_choices(words, files, exe, wide)
@@ -447,23 +268,15 @@ def menus(choices: Any, per: Any = None, *, exe: Any = None) -> MenuVerdict:
         Statistics. Stanford University Press.
         Falmagne, J.-C. (1978). A Representation Theorem for Finite Random Scale Systems. Journal of Mathematical Psychology 18, 52-72.
     """
-    own = (
-        choices
-        if isinstance(choices, MenuChoices) and per is None
-        else MenuChoices(choices, per)
-    )
-    out = program.answer(
-        ["menus", MENUS, *_units(own.per)], {MENUS: own.csv()}, exe, _explains(own)
-    )
+    own = choices if isinstance(choices, MenuChoices) and per is None else MenuChoices(choices, per)
+    out = program.answer(["menus", MENUS, *_units(own.per)], {MENUS: own.csv()}, exe, _explains(own))
     return MenuVerdict(own, out.encode())
 
 
 # ---- certificates
 
 
-def check(
-    data: Any, certificate: Any, *, per: Any = None, exe: Any = None, wide: bool = True
-) -> Checked:
+def check(data: Any, certificate: Any, *, per: Any = None, exe: Any = None, wide: bool = True) -> Checked:
     """Checks by the program whether a certificate proves its verdicts on a table or on choices. Returns a Checked.
 
     `data` is a table, choices, or the verdict on one. Or it has prices and quantities in a tuple, or a CSV file, by its name, text or bytes.
@@ -477,14 +290,10 @@ def check(
     files, per, explain = _files(data, per)
     claimed = certificate_bytes(certificate)
     if TABLE not in files and BUDGETS not in files:
-        raise BadData(
-            "the program checks certificates alone; verify looks at reports of pump, menus and cost"
-        )
+        raise BadData("the program checks certificates alone; verify looks at reports of pump, menus and cost")
     files[CERTIFICATE] = claimed
     words = ["check", TABLE] if TABLE in files else ["checkrandom", BUDGETS, CHOICES]
-    ran, is_wide = program.of_choices(
-        [*words, CERTIFICATE, *_units(per)], files, exe, wide
-    )
+    ran, is_wide = program.of_choices([*words, CERTIFICATE, *_units(per)], files, exe, wide)
     if ran.status in (0, 1):
         return Checked(ran.out, claimed, is_wide)
     if ran.refusal is None:
@@ -509,21 +318,13 @@ def verify(data: Any, certificate: Any = None, *, per: Any = None) -> Findings:
         files = _as_firm(files)
         return verifier.verify_cost(files[TECHNOLOGY], files[ASKED], claimed)
     if claimed.lstrip().startswith(b"alternatives "):
-        return verifier.verify_menus(
-            files.get(MENUS, files.get(TABLE, b"")), claimed, per
-        )
+        return verifier.verify_menus(files.get(MENUS, files.get(TABLE, b"")), claimed, per)
     if TABLE in files:
         found = _verifier_of(claimed)(files[TABLE], claimed)
-        return (
-            told_of_prices(found)
-            if getattr(_table_of(data), "own_money", False)
-            else found
-        )
+        return told_of_prices(found) if getattr(_table_of(data), "own_money", False) else found
     if BUDGETS in files:
         return verifier.verify_choices(files[BUDGETS], files[CHOICES], claimed, per)
-    raise BadData(
-        "a certificate is on a table or on choices from budgets; on menus and on firms there are reports"
-    )
+    raise BadData("a certificate is on a table or on choices from budgets; on menus and on firms there are reports")
 
 
 def _verifier_of(claimed: bytes) -> Callable[[bytes, bytes], Findings]:
@@ -536,15 +337,7 @@ def _verifier_of(claimed: bytes) -> Callable[[bytes, bytes], Findings]:
 def _table_of(data: Any) -> Any:
     """Returns the table that some data are, or have."""
     try:
-        return (
-            data.table
-            if hasattr(data, "table")
-            else data
-            if isinstance(data, Table)
-            else table(*data)
-            if isinstance(data, tuple)
-            else table(data)
-        )
+        return data.table if hasattr(data, "table") else data if isinstance(data, Table) else table(*data) if isinstance(data, tuple) else table(data)
     except (BadData, TypeError):
         return None
 
@@ -563,15 +356,11 @@ def _as_firm(files: dict[str, bytes]) -> dict[str, bytes]:
     if TECHNOLOGY in files:
         return files
     if BUDGETS not in files:
-        raise BadData(
-            "a report on production is on a technology and what was asked of it: a tuple of the two"
-        )
+        raise BadData("a report on production is on a technology and what was asked of it: a tuple of the two")
     return {TECHNOLOGY: files[BUDGETS], ASKED: files[CHOICES]}
 
 
-def _certificate(
-    words: list[str], sheets: list[Sheet], exe: Any, wide: bool
-) -> Certificate:
+def _certificate(words: list[str], sheets: list[Sheet], exe: Any, wide: bool) -> Certificate:
     """Returns the certificate that words over a table give, and over what is asked beside it."""
     files = {name: own.csv() for name, own in zip((TABLE, NEW), sheets)}
     given = program.given(words, files, exe, _explains(*sheets), wide)
@@ -582,14 +371,7 @@ def _stated(given: program.Given) -> bytes | None:
     return None if given.stated is None else given.stated.encode()
 
 
-def _new(
-    own: Table,
-    data: Any,
-    prefix: str,
-    more: str | None = None,
-    values: Any = None,
-    forms: Forms = DEFAULT,
-) -> Sheet:
+def _new(own: Table, data: Any, prefix: str, more: str | None = None, values: Any = None, forms: Forms = DEFAULT) -> Sheet:
     if data is None:
         raise BadData("there are no new prices or bundles")
     return beside(own.goods, data, prefix, more, values, forms)
@@ -604,33 +386,15 @@ def _explains(*sheets: Sheet) -> Explains:
     by_file = {sheet.file: sheet for sheet in sheets}
 
     def explain(file: str | None, fault: str, places: dict[str, int]) -> Refused:
-        return (
-            by_file[file].refused(fault, places)
-            if file in by_file
-            else refusal(fault, file, places)
-        )
+        return by_file[file].refused(fault, places) if file in by_file else refusal(fault, file, places)
 
     return explain
 
 
-def refusal(
-    fault: str, file: str | None, places: dict[str, int], label: Any = None
-) -> Refused:
+def refusal(fault: str, file: str | None, places: dict[str, int], label: Any = None) -> Refused:
     """Returns a refusal at these places."""
-    record, column, budget, menu, item = map(
-        places.get, ("record", "column", "budget", "menu", "item")
-    )
-    return Refused(
-        fault,
-        file,
-        record,
-        column,
-        budget,
-        menu,
-        item,
-        label=label,
-        hint=advice.hint_of(fault),
-    )
+    record, column, budget, menu, item = map(places.get, ("record", "column", "budget", "menu", "item"))
+    return Refused(fault, file, record, column, budget, menu, item, label=label, hint=advice.hint_of(fault))
 
 
 def _explains_choices(own: Choices) -> Explains:
@@ -649,9 +413,7 @@ def _explains_choices(own: Choices) -> Explains:
 def _files(data: Any, per: Any) -> tuple[dict[str, bytes], Any, Explains]:
     """Returns the files of some data with their units, and what explains a refusal of one."""
     for attribute in ("table", "choices"):
-        if isinstance(
-            data, (Verdict, RandomVerdict, MoneyPump, MenuVerdict, Answers)
-        ) and hasattr(data, attribute):
+        if isinstance(data, (Verdict, RandomVerdict, MoneyPump, MenuVerdict, Answers)) and hasattr(data, attribute):
             data = getattr(data, attribute)
             break
     if isinstance(data, CostMinimisation):
@@ -665,18 +427,10 @@ def _files(data: Any, per: Any) -> tuple[dict[str, bytes], Any, Explains]:
         return {TABLE: file_bytes(data)}, per, _explains()
     if isinstance(data, tuple) and len(data) == 2:
         if all(map(is_file, data)):
-            return (
-                {BUDGETS: file_bytes(data[0]), CHOICES: file_bytes(data[1])},
-                per,
-                _explains(),
-            )
+            return {BUDGETS: file_bytes(data[0]), CHOICES: file_bytes(data[1])}, per, _explains()
         if isinstance(data[0], Technology):
             sheet = data[1] if isinstance(data[1], Sheet) else data[0].asked(data[1])
-            return (
-                {TECHNOLOGY: data[0].csv(), ASKED: sheet.csv()},
-                per,
-                _explains(*data),
-            )
+            return {TECHNOLOGY: data[0].csv(), ASKED: sheet.csv()}, per, _explains(*data)
         data = table(*data)
     if not isinstance(data, Table):
         data = table(data)
@@ -706,15 +460,11 @@ def certificate_bytes(certificate: Any) -> bytes:
         return certificate.report
     if isinstance(certificate, (Verdict, RandomVerdict, Answers)):
         if certificate.certificate is None:
-            raise BadData(
-                "these utilities have no certificate: they are the Afriat numbers' of analyse, which has one"
-            )
+            raise BadData("these utilities have no certificate: they are the Afriat numbers' of analyse, which has one")
         return certificate.certificate.data
     if isinstance(certificate, (bytes, bytearray)):
         return bytes(certificate)
-    if isinstance(certificate, os.PathLike) or (
-        isinstance(certificate, str) and is_name_of_file(certificate)
-    ):
+    if isinstance(certificate, os.PathLike) or (isinstance(certificate, str) and is_name_of_file(certificate)):
         return _read(certificate)
     if isinstance(certificate, str):
         return text_bytes(certificate)
@@ -751,10 +501,4 @@ def _read(path: Any) -> bytes:
 # Other names of the same calls.
 first_contradiction, money_pump, power_of_test, random_trial = pairs, pump, power, trial
 demand_bounds, welfare_bounds, afriat_utility = demand, welfare, utility
-cost_minimisation, random_utility, choice_patches, menu_choices, checkrandom = (
-    cost,
-    random,
-    patches,
-    menus,
-    check,
-)
+cost_minimisation, random_utility, choice_patches, menu_choices, checkrandom = cost, random, patches, menus, check

@@ -1,20 +1,24 @@
 #!/usr/bin/env python3
 """Altered certificates on goodness of fit: what the second checker accepts is true, by looking at all there is.
 
-usage: altered_fit.py [COUNT] [SEED]
+usage: altered_fit.py [COUNT] [--seed TEXT] [--with PROGRAM]
 
 Draws small tables (up to five observations), makes a true certificate of each by `fit_by_search`, which the checker has to accept,
 and alters it in one way, eight times: numbers, lists, members, items of another table, and changes that may leave it true. Each
-item of an accepted certificate has to be true by `fit_by_search`. Tells how many were accepted, and what was rejected why.
+item of an accepted certificate has to be true by `fit_by_search`. Tells how many were accepted, and what was rejected why. With a
+program that has the commands, its own certificates are looked at and altered too, and `checkfit` has to say the same of each.
 """
 from __future__ import annotations
 
+import argparse
 import collections
 import copy
 import json
 import os
 import random
+import subprocess
 import sys
+import tempfile
 
 HERE = os.path.dirname(os.path.realpath(__file__))
 sys.path[:0] = [HERE, os.path.dirname(HERE)]
@@ -369,41 +373,102 @@ def spelled(items):
 # ---- the comparison
 
 
+def looked_at(file, items):
+    """Returns what the second checker finds, or None where it reads no certificate."""
+    try:
+        return verify_fit(file, spelled(items))
+    except NoCertificate:
+        return None
+
+
 def told(file, table, items):
     """Returns what the checker says of a certificate in a word or two, and what it accepts that is untrue."""
-    try:
-        found = verify_fit(file, spelled(items))
-    except NoCertificate:
+    found = looked_at(file, items)
+    if found is None:
         return "no certificate", []
     if not found.accepted:
         return f"{found.rejected.kind} {found.rejected.failure[0]}", []
     return "accepted", [item for item in items if not search.is_true(table, item)]
 
 
-def main(words):
-    count, seed = int(words[0]) if words else COUNT, words[1] if len(words) > 1 else SEED
-    choice = random.Random(seed)
-    said, wrong, tried, tables, another = collections.Counter(), [], 0, 0, None
-    while tried < count:
-        file, table = drawn(choice)
-        items = certificate(table, choice)
-        line, untrue = told(file, table, items)
-        if line != "accepted" or untrue:
-            wrong.append(f"a true certificate: {line} {untrue} {file!r} {json.dumps(items)}")
-        for _ in range(min(EACH, count - tried)):
-            other = altered(choice, items, another or items)
-            line, untrue = told(file, table, other)
-            said[line] += 1
-            wrong += [f"accepted and untrue: {item} {file!r}" for item in untrue]
-        tried, tables, another = tried + EACH, tables + 1, items
+class Program:
+    """The program's own commands `fit` and `checkfit`, on files in a folder of their own."""
+
+    def __init__(self, name, room):
+        self.name, self.room = name, room
+
+    def ran(self, *words):
+        it = subprocess.run([self.name, *words], cwd=self.room, stdin=subprocess.DEVNULL, capture_output=True)
+        return it.returncode, it.stdout, it.stderr
+
+    def is_there(self):
+        """Whether it has the commands: called without files it tells its usage, which then names them."""
+        return bool(self.name) and os.access(self.name, os.X_OK) and b" checkfit " in self.ran("checkfit")[2]
+
+    def written(self, file):
+        """Returns the items of its certificate on a table, and what is wrong with that."""
+        with open(f"{self.room}/t.csv", "wb") as it:
+            it.write(file)
+        status, out, err = self.ran("fit", "t.csv", "--json")
+        return (json.loads(out)["items"], []) if status == 0 else ([], [f"fit ended with {status} on {file!r}: {err!r}"])
+
+    def differs(self, file, items):
+        """Returns how it says something else than the second checker does of a certificate on the table that was written last."""
+        with open(f"{self.room}/z.json", "wb") as it:
+            it.write(spelled(items))
+        status, out, err = self.ran("checkfit", "t.csv", "z.json")
+        found = looked_at(file, items)
+        wanted = (4, b"") if found is None else (0 if found.accepted else 1, f"{found.line}\n".encode())
+        return [] if (status, out) == wanted else [f"checkfit said {status} {out!r} {err!r}, and not {wanted}: {file!r} {spelled(items)!r}"]
+
+
+def looked_through(choice, program, file, table, count, another):
+    """Returns the items that were altered, what is said of each alteration, and what is wrong: of a true certificate by `fit_by_search`,
+    of the program's own, and of so many that are altered from one of the two."""
+    items = [certificate(table, choice)]
+    wrong, said = [], []
+    if program:
+        own, wrong = program.written(file)
+        items += [own] if own else []
+    for it in items:
+        line, untrue = told(file, table, it)
+        wrong += [] if line == "accepted" and not untrue else [f"a true certificate: {line} {untrue} {file!r} {json.dumps(it)}"]
+    others = [altered(choice, choice.choice(items), another or items[0]) for _ in range(count)]
+    for other in others:
+        line, untrue = told(file, table, other)
+        said.append(line)
+        wrong += [f"accepted and untrue: {item} {file!r}" for item in untrue]
+    if program:
+        wrong += [it for each in (*items, *others) for it in program.differs(file, each)]
+    return items[0], said, wrong
+
+
+def main():
+    parser = argparse.ArgumentParser(description=__doc__, formatter_class=argparse.RawDescriptionHelpFormatter)
+    parser.add_argument("count", type=int, nargs="?", default=COUNT)
+    parser.add_argument("--seed", default=SEED)
+    parser.add_argument("--with", dest="program", help="a program with the commands fit and checkfit")
+    given = parser.parse_args()
+    choice = random.Random(given.seed)
+    said, wrong, tables, another = collections.Counter(), [], 0, None
+    with tempfile.TemporaryDirectory() as room:
+        program = Program(os.path.abspath(given.program), room) if given.program else None
+        if program and not program.is_there():
+            print("goodness of fit: the program has no command checkfit, so that the second checker is alone")
+            program = None
+        while sum(said.values()) < given.count:
+            file, table = drawn(choice)
+            another, more, found = looked_through(choice, program, file, table, min(EACH, given.count - sum(said.values())), another)
+            said.update(more)
+            wrong += found
+            tables += 1
     for it in wrong[:5]:
         print(it)
     reasons = ", ".join(f"{line} {number}" for line, number in sorted(said.items()))
-    print(f"goodness of fit: {tables} certificates that were made, {sum(said.values())} that were altered ({reasons}): {len(wrong)} wrong")
+    beside = " beside the program" if program else ""
+    print(f"goodness of fit{beside}: {tables} certificates that were made, {sum(said.values())} that were altered ({reasons}): {len(wrong)} wrong")
     return 1 if wrong else 0
 
 
 if __name__ == "__main__":
-    if {"-h", "--help"} & {*sys.argv[1:]}:
-        sys.exit(print(__doc__.strip()))
-    sys.exit(main(sys.argv[1:]))
+    sys.exit(main())
