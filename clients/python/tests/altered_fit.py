@@ -287,7 +287,7 @@ def other_list(choice, value):
 
 
 def weakened(choice, item):
-    """Changes an item so that it may say less and be as true."""
+    """Changes an item so that it may say less and be as true, or by so little that it may be untrue only just."""
     kind = item["item"]
     if kind == "kept":
         weakened_kept(choice, item)
@@ -303,8 +303,11 @@ def weakened(choice, item):
 
 
 def weakened_kept(choice, item):
-    way = choice.randrange(3)
-    if way == 0 and item["kept"]:
+    way = choice.randrange(4)
+    if way == 3:
+        group = choice.choice(item["groups"])
+        group["weight"] = str(max(1, int(group["weight"]) - 1))
+    elif way == 0 and item["kept"]:
         place = choice.randrange(len(item["kept"]))
         del item["kept"][place], item["ranks"][place]
     elif way == 1:
@@ -323,12 +326,14 @@ def turned(walk):
 def weakened_cycles(choice, item):
     if not item["cycles"]:
         return
-    place, way = choice.randrange(len(item["cycles"])), choice.randrange(3)
+    place, way = choice.randrange(len(item["cycles"])), choice.randrange(4)
     each = item["cycles"][place]
     if way == 0:
         del item["cycles"][place]
     elif way == 1:
         each["cycle"] = turned(each["cycle"])
+    elif way == 2:
+        each["weight"] = str(int(each["weight"]) + 1)
     else:
         each["weight"] = str(max(1, int(each["weight"]) // 2))
 
