@@ -1,1 +1,4 @@
 pub mod Entries
+pub mod FirstPrograms
+pub mod GrownPrograms
+pub mod WrittenOut

@@ -1,3 +1,4 @@
 pub mod InnerPivots
 pub mod Pivots
+pub mod Programs
 pub mod Reduced

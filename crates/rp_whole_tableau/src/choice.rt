@@ -1,5 +1,5 @@
 //! The choice of column and row.
-ghost use Rattle.std.specs.Prelude.{◌<◌, pos, ◌<ℤ◌, IfSome, length};
+ghost use Rattle.std.specs.Prelude.{ℕ, ◌<◌, pos, ◌<ℤ◌, IfNone, IfSome, length};
 ghost use Rattle.rp_whole_tableau.specs.Pivots.{number_at};
 
 use crate::signed::{is_less, product};
@@ -38,7 +38,10 @@ fn is_lesser_row(t: &Tableau, column: &[i128], first: usize, second: usize) -> b
 /// lexicographically least, each divided by that entry. None where no row has one.
 pub fn leaving_row(t: &Tableau, column: &[i128]) -> Option<usize>
     ensures inside { IfSome result (λ r. r < length column.now) }
+    ensures row { IfSome result (λ r. r < length t.now.basis.items) }
     ensures positive { IfSome result (λ r. pos 0 <ℤ number_at column.now r) }
+    ensures none { IfNone result ((i : ℕ) → i < length t.now.basis.items → i < length column.now
+        → ¬ (pos 0 <ℤ number_at column.now i)) }
 {
     let mut best = None;
     for i in 0..t.basis.len().min(column.len()) {

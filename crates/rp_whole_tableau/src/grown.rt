@@ -1,5 +1,9 @@
 //! A tableau that takes columns.
-ghost use Rattle.std.specs.Prelude.{◌≡◌, IfOk, IfSome, length};
+ghost use Rattle.rp_whole_tableau.specs.Pivots.{number_at};
+ghost use Rattle.std.specs.Prelude.{◌≡◌, ◌<◌, ◌^◌, ℕ, pos, ◌+◌, ◌<ℤ◌, IfOk, MatchBool, MatchOption, length, true};
+ghost use Rattle.rp_whole_tableau.specs.InnerPivots.{IsLowerOf, IsLowestBelow};
+ghost use Rattle.rp_whole_tableau.specs.Programs.{AddsColumn, AreEntriesOf, ColumnPasses, HasSoMuch, IsEntering, IsFirst, IsFirstRow};
+ghost use Rattle.rp_whole_tableau.specs.Programs.{IsLeft, IsSolvedBy, Stops, Turns, price_of, width_of};
 
 use crate::choice::leaving_row;
 use crate::run::MOST_PIVOTS;
@@ -16,8 +20,35 @@ pub struct Grown {
     pub(crate) columns: Vec<Vec<u32>>,
 }
 
+/// The column with the lowest entry in the objective row so far, where one is below 0, and that entry, or else 0.
+#[derive(Clone, Copy)]
+struct Lowest {
+    column: Option<usize>,
+    price: i128,
+}
+
+impl Lowest {
+    /// It, or this column where its entry is lower.
+    fn or(self, column: usize, price: i128) -> Lowest
+        ensures { IsLowerOf self column price result }
+    {
+        if price < self.price {
+            Lowest {
+                column: Some(column),
+                price,
+            }
+        } else {
+            self
+        }
+    }
+}
+
 /// Row i of the first tableau: its side, and the unit of its slack among so many.
-fn first_row(alloc: Global, side: u64, i: usize, rows: usize) -> Result<Vec<i128>, NoMemory> {
+#[tactic(auto, using(crate::proofs::FirstPrograms::slack_more, crate::proofs::FirstPrograms::side_stays))]
+fn first_row(alloc: Global, side: u64, i: usize, rows: usize) -> Result<Vec<i128>, NoMemory>
+    requires { rows < 2 ^ 63 }
+    ensures { IfOk result (λ row. IsFirstRow side i rows row.items) }
+{
     let mut row = Vec::new(alloc);
     row.push(i128::from(side))?;
     for s in 0..rows {
@@ -27,7 +58,10 @@ fn first_row(alloc: Global, side: u64, i: usize, rows: usize) -> Result<Vec<i128
 }
 
 /// The objective row of the first tableau: no value, and no prices.
-fn objective_row(alloc: Global, rows: usize) -> Result<Vec<i128>, NoMemory> {
+#[tactic(auto, using(crate::proofs::FirstPrograms::zero_more))]
+fn objective_row(alloc: Global, rows: usize) -> Result<Vec<i128>, NoMemory>
+    ensures { IfOk result (λ row. (j : ℕ) → number_at row.items j ≡ pos 0) }
+{
     let mut row = Vec::new(alloc);
     row.push(0)?;
     for _ in 0..rows {
@@ -36,36 +70,12 @@ fn objective_row(alloc: Global, rows: usize) -> Result<Vec<i128>, NoMemory> {
     Ok(row)
 }
 
-impl Tableau {
-    /// The entry in row i of a column that has 1 in these rows: the sum of the entries of their slacks, and in the
-    /// objective row less the denominator.
-    fn entry_of(&self, i: usize, rows: &[u32]) -> i128 {
-        let mut entry: i128 = 0;
-        for row in rows {
-            entry = entry.saturating_add(self.entry(i, 1 + *row as usize));
-        }
-        if i == self.basis.len() {
-            let den = i128::try_from(self.den).unwrap_or(i128::MAX);
-            entry = entry.saturating_sub(den);
-        }
-        entry
-    }
-
-    /// A column that has 1 in these rows, written out.
-    fn written_out(&self, alloc: Global, rows: &[u32]) -> Result<Vec<i128>, NoMemory>
-        ensures { IfOk result (λ column. length column.items ≡ length self.now.rows.items) }
-    {
-        let mut column = Vec::new(alloc);
-        for i in 0..self.rows.len() {
-            column.push(self.entry_of(i, rows))?;
-        }
-        Ok(column)
-    }
-}
-
 impl Grown {
     /// The program of rows with these sides, and no columns yet.
-    pub fn of_sides(alloc: Global, sides: &[u64]) -> Result<Grown, NoMemory> {
+    #[tactic(auto, using(crate::proofs::FirstPrograms::basis_more, crate::proofs::FirstPrograms::rows_more, crate::proofs::FirstPrograms::rows_before, crate::proofs::FirstPrograms::row_last))]
+    pub fn of_sides(alloc: Global, sides: &[u64]) -> Result<Grown, NoMemory>
+        ensures { IfOk result (IsFirst sides.now) }
+    {
         let mut rows = Vec::new(alloc);
         let mut basis = Vec::new(alloc);
         for i in 0..sides.len() {
@@ -84,7 +94,10 @@ impl Grown {
     }
 
     /// Adds the column of these rows, its number how many were added before. It enters nowhere yet.
-    pub fn add(&mut self, alloc: Global, rows: &[u32]) -> Result<(), NoMemory> {
+    pub fn add(&mut self, alloc: Global, rows: &[u32]) -> Result<(), NoMemory>
+        ensures tableau { self.new.tableau ≡ self.old.tableau }
+        ensures columns { IfOk result (λ _. AddsColumn rows.now self.old self.new) }
+    {
         self.columns.push(Vec::from_slice(alloc, rows)?)?;
         Ok(())
     }
@@ -98,62 +111,82 @@ impl Grown {
     }
 
     /// The last pivot, over which all numbers are.
-    pub fn den(&self) -> u128 {
+    pub fn den(&self) -> u128
+        ensures { result ≡ self.now.tableau.den }
+    {
         self.tableau.den
     }
 
     /// Whether there is so much of all columns.
-    pub fn has(&self, much: u64) -> bool {
+    pub fn has(&self, much: u64) -> bool
+        ensures { result ≡ true → HasSoMuch self.now much }
+    {
         let value = self.tableau.entry(self.tableau.basis.len(), 0);
         value > 0 && value.unsigned_abs() / u128::from(much.max(1)) >= self.tableau.den
     }
 
     /// The price of a row.
-    pub fn price(&self, row: usize) -> i128 {
-        self.tableau
-            .entry(self.tableau.basis.len(), row.saturating_add(1))
+    pub fn price(&self, row: usize) -> i128
+        requires { row < 2 ^ 63 }
+        ensures { result ≡ price_of self.now row }
+    {
+        self.tableau.entry(self.tableau.basis.len(), row + 1)
     }
 
-    /// The column that enters: the one with the least entry in the objective row, where that is negative.
-    fn entering(&self) -> Option<usize> {
+    /// The slack with the lowest entry in the objective row, where one is below 0.
+    fn lowest_slack(&self) -> Lowest
+        ensures { IsLowestBelow self.now (width_of self.now.tableau) 0 result }
+    {
+        let objective = self.tableau.basis.len();
+        let mut column = None;
+        let mut price = 0;
+        for j in 1..self.tableau.width() {
+            let entry = self.tableau.entry(objective, j);
+            if entry < price {
+                column = Some(j);
+                price = entry;
+            }
+        }
+        Lowest { column, price }
+    }
+
+    /// The column that enters: the one with the lowest entry in the objective row, where that is below 0. None where an
+    /// entry of a column that was added passes its width.
+    fn entering(&self) -> Option<Lowest>
+        ensures { MatchOption result (ColumnPasses self.now)
+            (IsLowestBelow self.now (width_of self.now.tableau) (length self.now.columns.items)) }
+    {
         let objective = self.tableau.basis.len();
         let width = self.tableau.width();
-        let mut entering = None;
-        let mut least = 0;
-        for j in 1..width {
-            let entry = self.tableau.entry(objective, j);
-            if entry < least {
-                entering = Some(j);
-                least = entry;
-            }
-        }
+        let mut lowest = self.lowest_slack();
         for n in 0..self.columns.len() {
-            let entry = self.tableau.entry_of(objective, self.columns[n].as_slice());
-            if entry < least {
-                entering = Some(width.saturating_add(n));
-                least = entry;
+            match self.tableau.entry_of(objective, self.columns[n].as_slice()) {
+                Some(entry) => lowest = lowest.or(width + n, entry),
+                None => return None,
             }
         }
-        entering
+        Some(lowest)
     }
 
-    /// The entries of a column, a slack or one that was added; none where there is no such column.
+    /// The entries of a column, a slack or one that was added; none where one passes its width.
     fn entries_of(&self, alloc: Global, column: usize) -> Result<Option<Vec<i128>>, NoMemory>
-        ensures { IfOk result (λ found. IfSome found (λ entries.
-            length entries.items ≡ length self.now.tableau.rows.items)) }
+        requires { column < width_of self.now.tableau + length self.now.columns.items }
+        ensures { IfOk result (λ found. MatchOption found (ColumnPasses self.now)
+            (λ entries. AreEntriesOf self.now column entries.items)) }
     {
         let width = self.tableau.width();
         if column < width {
             return Ok(Some(self.tableau.column(alloc, column)?));
         }
-        match self.columns.get(column - width) {
-            Some(rows) => Ok(Some(self.tableau.written_out(alloc, rows.as_slice())?)),
-            None => Ok(None),
-        }
+        let rows = self.columns[column - width].as_slice();
+        self.tableau.written_out(alloc, rows)
     }
 
     /// Pivots in a column, a slack or one that was added. Whether some row leaves and each entry fits.
-    fn enter(&mut self, alloc: Global, column: usize) -> Result<bool, NoMemory> {
+    fn enter(&mut self, alloc: Global, column: usize) -> Result<bool, NoMemory>
+        requires { IsEntering self.old column }
+        ensures { IfOk result (λ made. MatchBool made (Turns self.old self.new) (Stops self.old)) }
+    {
         let Some(entries) = self.entries_of(alloc, column)? else {
             return Ok(false);
         };
@@ -167,14 +200,20 @@ impl Grown {
         Ok(true)
     }
 
-    /// Pivots until there is so much of all columns or none enters; false where an entry reaches 2^127, and after the
-    /// most pivots.
-    pub fn solve(&mut self, alloc: Global, enough: u64) -> Result<bool, NoMemory> {
-        for _ in 0..MOST_PIVOTS {
+    /// Pivots until there is so much of all columns or none enters; false where a number passes its width, where the
+    /// program has no bound, and after the most pivots.
+    pub fn solve(&mut self, alloc: Global, enough: u64) -> Result<bool, NoMemory>
+        ensures { IfOk result (λ solved. MatchBool solved (IsSolvedBy enough self.old self.new)
+            (IsLeft self.old)) }
+    {
+        for _pivot in 0..MOST_PIVOTS {
             if self.has(enough) {
                 return Ok(true);
             }
-            let Some(column) = self.entering() else {
+            let Some(lowest) = self.entering() else {
+                return Ok(false);
+            };
+            let Some(column) = lowest.column else {
                 return Ok(true);
             };
             if !self.enter(alloc, column)? {

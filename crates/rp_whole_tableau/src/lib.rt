@@ -12,6 +12,7 @@ mod readout;
 mod run;
 mod signed;
 mod tableau;
+mod written_out;
 
 pub use bound::whole_bound_of;
 pub use grown::Grown;

@@ -107,10 +107,11 @@ impl Tableau {
     pub fn pivot(&mut self, alloc: Global, r: usize, column: &[i128]) -> Result<bool, NoMemory>
         requires row { r < length self.old.rows.items }
         requires positive { pos 0 <ℤ number_at column.now r }
-        ensures { IfOk result (λ fits. MatchBool fits
+        ensures pivot { IfOk result (λ fits. MatchBool fits
             (IsPivotIn self.old.den self.old.rows.items column.now r self.new.den
             self.new.rows.items)
             (PivotPasses self.old.den self.old.rows.items column.now r)) }
+        ensures basis { self.new.basis ≡ self.old.basis }
     {
         let pivot_row = Vec::from_slice(alloc, self.rows[r].as_slice())?;
         let pivot = entry_at(column, r);

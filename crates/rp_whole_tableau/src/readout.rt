@@ -1,11 +1,16 @@
 //! What is read off the last tableau.
+ghost use Rattle.std.specs.Prelude.{◌≤◌, IfNone, IfOk};
+ghost use Rattle.rp_whole_tableau.specs.Programs.{IsTooWide, PricePasses};
+
 use crate::tableau::Tableau;
 use rp_farkas::{EVIDENCE_WIDTH, Entry, Pair};
 use rp_num::{NoMemory, Seq, gcd};
 use std::alloc::Global;
 
 /// A number divided by the common divisor, where it is not negative and within the width of evidence.
-pub fn reduced(n: i128, common: u128) -> Option<u64> {
+pub fn reduced(n: i128, common: u128) -> Option<u64>
+    ensures { 1 ≤ common → IfNone result (IsTooWide n) }
+{
     if n < 0 || common == 0 {
         return None;
     }
@@ -43,7 +48,9 @@ fn common_divisor(t: &Tableau) -> u128 {
 }
 
 /// The prices: the slack entries of the objective row.
-pub fn prices(alloc: Global, t: &Tableau, common: u128) -> Result<Option<Vec<u64>>, NoMemory> {
+pub fn prices(alloc: Global, t: &Tableau, common: u128) -> Result<Option<Vec<u64>>, NoMemory>
+    ensures { 1 ≤ common → IfOk result (λ found. IfNone found (PricePasses t.now)) }
+{
     let objective = t.basis.len();
     let mut prices = Vec::new(alloc);
     for s in 0..objective {

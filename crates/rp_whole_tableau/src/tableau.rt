@@ -1,6 +1,6 @@
 //! The tableau on whole numbers over one denominator.
-ghost use Rattle.std.specs.Prelude.{◌≡◌, ◌<◌, ◌≤◌, ◌^◌, IfOk, length};
-ghost use Rattle.rp_whole_tableau.specs.Pivots.{IsColumnAt, entry_in, number_at};
+ghost use Rattle.std.specs.Prelude.{◌≡◌, ◌<◌, ◌≤◌, ◌^◌, IfOk, length, slice_set};
+ghost use Rattle.rp_whole_tableau.specs.Pivots.{IsColumnAt, entry_in, number_at, row_of};
 
 use rp_farkas::Lp;
 use rp_num::NoMemory;
@@ -14,7 +14,7 @@ pub struct Tableau {
     pub rows: Vec<Vec<i128>>,
     pub basis: Vec<usize>,
     ghost positive: { 1 ≤ den },
-    ghost small: { den ≤ 2 ^ 127 },
+    ghost small: { den < 2 ^ 127 },
 }
 
 /// The entry at a place, or 0 past the end.
@@ -94,14 +94,20 @@ impl Tableau {
     }
 
     /// Makes a column the basic one of a row.
-    pub fn enter(&mut self, row: usize, column: usize) {
-        if row < self.basis.len() {
-            self.basis[row] = column;
-        }
+    pub fn enter(&mut self, row: usize, column: usize)
+        requires { row < length self.old.basis.items }
+        ensures den { self.new.den ≡ self.old.den }
+        ensures rows { self.new.rows ≡ self.old.rows }
+        ensures basis { self.new.basis.items ≡ slice_set self.old.basis.items row column }
+    {
+        self.basis[row] = column;
     }
 
     /// How many entries a row has.
-    pub fn width(&self) -> usize {
+    pub fn width(&self) -> usize
+        ensures entries { result ≡ length (row_of self.now.rows.items 0) }
+        ensures small { result < 2 ^ 63 }
+    {
         match self.rows.first() {
             Some(row) => row.len(),
             None => 0,
