@@ -1,2 +1,3 @@
 pub mod FoundProves
 pub mod Looks
+pub mod RoundLaws

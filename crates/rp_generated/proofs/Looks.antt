@@ -13,6 +13,8 @@ use Rattle.rp_patch.specs.declared.partial_type.PartialType.{PartialType}
 use Rattle.rp_patch.specs.Types.{IsRationalType}
 use Rattle.rp_patch.proofs.SearchLaws.{begins_at, begins_itself}
 use Rattle.rp_generated.specs.InnerLooks.{Apart, AreFirst, AreListedFrom, ArePatchesOn, Each, IsBefore, IsDecided, IsLookUnder, LookedBelow, LookedFrom, LookedUnder, NoneBegins, WereMadeIn}
+use Rattle.rp_generated.specs.Rounds.{HasEnded, HasNothingToShow, IsFirstProgram, ShowsNothing}
+use Rattle.rp_whole_tableau.specs.declared.grown.Grown.{Grown}
 use Rattle.rp_generated.specs.Steps.{AreSpent, HasFound, HasNoRationalType, IsLook, IsSearch, IsWithheldAfter, SomeHasFound}
 use Rattle.rp_generated.specs.declared.looked.Lightest.{Lightest}
 
@@ -352,7 +354,7 @@ begun_by p light first more = more_searches p 2 2 light.steps _ (SomeHasFound p)
 pub round_made : (p : PatchList) (rounds made more has : ℕ) → WereMadeIn p rounds made (SomeHasFound p) → LookedUnder p [] made more 0 has → 2 * more ≤ STEPS → WereMadeIn p (rounds + 1) more (SomeHasFound p)
 round_made p rounds made more has so_far under half = search_made p rounds made more 0 has (SomeHasFound p) (SomeHasFound p) so_far under half (λ found. inr found)
 
-withheld : (p : PatchList) (most made : ℕ) (Also : Searches → Type 0) (is : WereMadeIn p most made Also) → most ≤ 65537 → AreSpent made ⊎ (HasNoRationalType p ⊎ SomeHasFound p is.searches) → IsWithheldAfter p made
+withheld : (p : PatchList) (most made : ℕ) (Also : Searches → Type 0) (is : WereMadeIn p most made Also) → most ≤ 65537 → AreSpent made ⊎ (HasNothingToShow p made ⊎ (SomeHasFound p is.searches × HasEnded p made)) → IsWithheldAfter p made
 withheld p most made Also is few cause = record {
   searches = is.searches;
   rounds = let l = is.few in omega (arith, few, l);
@@ -362,11 +364,17 @@ withheld p most made Also is few cause = record {
   cause = cause;
 }
 
-pub withheld_found : (p : PatchList) (rounds made : ℕ) → rounds ≤ 65537 → WereMadeIn p rounds made (SomeHasFound p) → IsWithheldAfter p made
-withheld_found p rounds made few is = withheld p rounds made (SomeHasFound p) is few (inr (inr is.also))
+pub withheld_found : (p : PatchList) (rounds made : ℕ) → rounds ≤ 65537 → WereMadeIn p rounds made (SomeHasFound p) → HasEnded p made → IsWithheldAfter p made
+withheld_found p rounds made few is ended = withheld p rounds made (SomeHasFound p) is few (inr (inr (is.also, ended)))
 
-pub withheld_spent : (p : PatchList) (light : Lightest) → AreFirst p light → AreSpent light.steps → IsWithheldAfter p light.steps
-withheld_spent p light first spent = withheld p 2 light.steps _ first.made (omega arith) (inl spent)
+pub withheld_spent : (p : PatchList) (rounds made : ℕ) → rounds ≤ 65537 → WereMadeIn p rounds made (SomeHasFound p) → AreSpent made → IsWithheldAfter p made
+withheld_spent p rounds made few is spent = withheld p rounds made (SomeHasFound p) is few (inl spent)
 
-pub withheld_none : (p : PatchList) (light : Lightest) → AreFirst p light → length light.types.items ≡ 0 → IsWithheldAfter p light.steps
-withheld_none p light first none = withheld p 2 light.steps _ first.made (omega arith) (elim (first.decided none) [ inl spent ↦ inl spent | inr lacking ↦ inr (inl lacking) ])
+pub spent_first : (p : PatchList) (light : Lightest) → AreFirst p light → AreSpent light.steps → IsWithheldAfter p light.steps
+spent_first p light first spent = withheld p 2 light.steps _ first.made (omega arith) (inl spent)
+
+pub withheld_none : (p : PatchList) (light : Lightest) (g : Grown) → AreFirst p light → length light.types.items ≡ 0 → IsFirstProgram p g → ShowsNothing p light.steps g → IsWithheldAfter p light.steps
+withheld_none p light g first none program nothing = withheld p 2 light.steps _ first.made (omega arith) (elim (first.decided none) [
+  | inl spent ↦ inl spent
+  | inr lacking ↦ inr (inl (record { none = lacking; program = g; first = program; nothing = nothing }))
+])

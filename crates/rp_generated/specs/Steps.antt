@@ -7,6 +7,7 @@ use Rattle.rp_limits.specs.declared.generated.TheConstants.{STEPS}
 use Rattle.rp_patch.specs.PartialTypes.{IsRationalBelow}
 use Rattle.rp_patch.specs.Patches.{PatchList, budget_at}
 use Rattle.rp_patch.specs.Types.{IsRationalType}
+use Rattle.rp_generated.specs.Rounds.{HasEnded, HasNothingToShow}
 
 -- A step is a look at a patch for a type that is begun: of each of the first budgets a patch, without a violation among
 -- them, and after these the patch of the next budget that is looked at.
@@ -43,16 +44,15 @@ abbrev pub AreSpent : ℕ → Type 0
 AreSpent steps = 2 * steps ≡ STEPS
 
 -- A verdict is withheld after so many steps. They are the looks of searches: of one that leaves out nothing, and of one
--- in each of at most 65,536 rounds. Either all steps are spent, or there is no rational type, or else some search found
--- one. In the last case the program over the found types ended by its rounds, its pivots or the width of its numbers, or
--- the checker does not take what it shows in the steps that are left: which of these, and when, is not stated here.
+-- in each of at most 65,536 rounds. Either all steps are spent; or there is no rational type, and the checker does not take
+-- what shows it; or some search found one, and the rounds over the found types ended without evidence.
 pub record IsWithheldAfter (p : PatchList) (steps : ℕ) : Type 0 where
   pub searches : List (List (List ℕ))
   pub rounds : length searches ≤ 65537
   pub each : All (IsSearch p) searches
   pub looks : sum_by length searches ≡ steps
   pub half : 2 * steps ≤ STEPS
-  pub cause : AreSpent steps ⊎ (HasNoRationalType p ⊎ SomeHasFound p searches)
+  pub cause : AreSpent steps ⊎ (HasNothingToShow p steps ⊎ (SomeHasFound p searches × HasEnded p steps))
 
 -- Of the steps after which a verdict is withheld this holds.
 abbrev pub WithheldAt : RandomPart → (ℕ → Type 0) → Type 0

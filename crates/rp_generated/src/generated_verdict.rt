@@ -1,8 +1,9 @@
 //! The verdict on random choices by generated types.
-ghost use Rattle.std.specs.Prelude.{◌≡◌, ◌≤◌, true, IfOk, IfSome, Ok};
+ghost use Rattle.std.specs.Prelude.{◌≡◌, ◌≤◌, ◌*◌, true, false, Err, IfOk, IsErr, Ok};
+ghost use Rattle.rp_evidence.specs.declared.failure.Failure.{Failure};
+ghost use Rattle.rp_generated.specs.InnerRounds.{EndsWith};
 ghost use Rattle.rp_check_mixture.specs.RandomWithin.{RandomFailsWithin};
 ghost use Rattle.rp_generated.specs.Steps.{IsWithheldAfter, WithheldAt};
-ghost use Rattle.rp_patch.specs.Patches.{PatchList};
 ghost use Rattle.rp_patch.specs.RandomEvidence.{ProvesRandom, ShowsShare};
 ghost use Rattle.rp_persons.specs.SaysRandom.{SaysOfChoices};
 
@@ -16,7 +17,8 @@ use std::alloc::Global;
 
 /// Whether nothing was found wrong.
 fn is_nothing(found: Result<(), Failure>) -> bool
-    ensures { result ≡ true → found ≡ Ok tt }
+    ensures nothing { result ≡ true → found ≡ Ok tt }
+    ensures something { result ≡ false → IsErr found }
 {
     match found {
         Ok(()) => true,
@@ -24,21 +26,13 @@ fn is_nothing(found: Result<(), Failure>) -> bool
     }
 }
 
-/// Whether evidence has a verdict.
-fn has_verdict(part: &RandomPart) -> bool
-    ensures { result ≡ true → (p : PatchList) → WithheldAt part.now (IsWithheldAfter p) }
-{
-    match part {
-        RandomPart::Wide { .. } => false,
-        _ => true,
-    }
-}
-
 /// Whether the checker finds nothing wrong with evidence in the steps that are left.
 fn is_taken(patches: &Patches, part: &RandomPart, left: u64) -> bool
     requires { left ≤ STEPS }
-    ensures { result ≡ true
+    ensures taken { result ≡ true
         → RandomFailsWithin patches.now patches.now.total part.now STEPS (Ok tt) }
+    ensures other { result ≡ false → (why : Failure)
+        × RandomFailsWithin patches.now patches.now.total part.now left (Err why) }
 {
     is_nothing(check_choices_within(patches, patches.total(), part, left))
 }
@@ -46,12 +40,13 @@ fn is_taken(patches: &Patches, part: &RandomPart, left: u64) -> bool
 /// The evidence where the checker takes it in the steps that are left after so many, and else that the verdict is
 /// withheld after these.
 fn if_taken(patches: &Patches, found: Option<RandomPart>, steps: u64) -> RandomPart
-    requires { IsWithheldAfter patches.now steps }
+    requires few { 2 * steps ≤ STEPS }
+    requires ends { EndsWith patches.now found steps }
     ensures accepted { RandomFailsWithin patches.now patches.now.total result STEPS (Ok tt) }
     ensures steps { WithheldAt result (IsWithheldAfter patches.now) }
 {
     match found {
-        Some(part) if has_verdict(&part) && is_taken(patches, &part, STEPS - steps) => part,
+        Some(part) if is_taken(patches, &part, STEPS - steps) => part,
         _ => RandomPart::Wide { step: steps },
     }
 }

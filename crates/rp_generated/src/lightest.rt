@@ -4,6 +4,8 @@
 ghost use Rattle.std.specs.Prelude.{◌≡◌, ◌<◌, ◌≤◌, ◌+◌, ◌*◌, ◌++◌, ◌∷◌, [], IfOk, IfSome};
 ghost use Rattle.std.specs.Prelude.{length};
 ghost use Rattle.rp_generated.specs.InnerLooks.{AreListed, Looked, LookedFrom};
+ghost use Rattle.rp_generated.specs.InnerRounds.{StayTypes};
+ghost use Rattle.rp_generated.specs.Rounds.{AreTypes};
 ghost use Rattle.rp_limits.specs.declared.generated.TheConstants.{STEPS};
 ghost use Rattle.rp_patch.specs.PartialTypes.{IsPartialType, taken_in};
 
@@ -110,8 +112,9 @@ fn seek(
 ) -> Result<(), NoMemory>
     requires part { IsPartialType patches.now begun.now.partial }
     requires listed { AreListed patches.now prices.now }
-    ensures { IfOk result (λ _.
+    ensures looked { IfOk result (λ _.
         Looked patches.now (taken_in begun.now.partial) lightest.old lightest.new) }
+    ensures types { IfOk result (λ _. StayTypes patches.now lightest.old lightest.new) }
 {
     prove!(patches.budgets() <= BUDGETS);
     let taken = begun.partial.taken;
@@ -145,7 +148,8 @@ pub(crate) fn light_types(
 ) -> Result<Lightest, NoMemory>
     requires few { 2 * steps ≤ STEPS }
     requires listed { AreListed patches.now prices.now }
-    ensures { IfOk result (LookedFrom patches.now steps) }
+    ensures looked { IfOk result (LookedFrom patches.now steps) }
+    ensures types { IfOk result (λ light. AreTypes patches.now light.types.items) }
 {
     let mut lightest = Lightest {
         weight: below,

@@ -1,5 +1,6 @@
 //! What searches have found, and how many steps they made.
 ghost use Rattle.std.specs.Prelude.{◌≡◌, ◌≤◌, ◌+◌, ◌*◌, IfOk, length, true, false};
+ghost use Rattle.rp_generated.specs.InnerTypes.{AddsLast};
 ghost use Rattle.rp_limits.specs.declared.generated.TheConstants.{STEPS};
 
 use rp_limits::generated::STEPS;
@@ -39,6 +40,7 @@ impl Lightest {
         ensures steps { self.new.steps ≡ self.old.steps }
         ensures more { IfOk result (λ _.
             length self.new.types.items ≡ length self.old.types.items + 1) }
+        ensures last { IfOk result (λ _. AddsLast numbers.now self.old.types.items self.new.types.items) }
     {
         self.types.push(Vec::from_slice(alloc, numbers)?)?;
         self.weight = weight;

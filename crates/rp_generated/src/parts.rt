@@ -1,5 +1,7 @@
 //! Evidence from a program of types.
-ghost use Rattle.std.specs.Prelude.{◌≤◌, length};
+ghost use Rattle.std.specs.Prelude.{◌≤◌, IfOk, MatchOption, length};
+ghost use Rattle.rp_generated.specs.Rounds.{IsVerdict};
+ghost use Rattle.rp_whole_tableau.specs.Programs.{NumberPasses};
 
 use rp_evidence::{RandomPart, Share};
 use rp_farkas::{Entry, Pair};
@@ -37,7 +39,9 @@ fn parts_of(alloc: Global, program: &Grown, entries: &[Entry]) -> Result<Vec<Sha
 }
 
 /// The mixture that a program shows, where it has the whole total.
-pub(crate) fn mixture(alloc: Global, program: &Grown) -> Result<Option<RandomPart>, NoMemory> {
+pub(crate) fn mixture(alloc: Global, program: &Grown) -> Result<Option<RandomPart>, NoMemory>
+    ensures { IfOk result (λ o. MatchOption o (NumberPasses program.now) IsVerdict) }
+{
     let Some(Pair { den, y, .. }) = program.point(alloc)? else {
         return Ok(None);
     };
@@ -49,7 +53,9 @@ pub(crate) fn mixture(alloc: Global, program: &Grown) -> Result<Option<RandomPar
 }
 
 /// The partial mixture and the weights that a program shows, where no type is too light.
-pub(crate) fn violation(alloc: Global, program: &Grown) -> Result<Option<RandomPart>, NoMemory> {
+pub(crate) fn violation(alloc: Global, program: &Grown) -> Result<Option<RandomPart>, NoMemory>
+    ensures { IfOk result (λ o. MatchOption o (NumberPasses program.now) IsVerdict) }
+{
     let Some(Pair { den, y, x }) = program.pair(alloc)? else {
         return Ok(None);
     };

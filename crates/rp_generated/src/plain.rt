@@ -3,6 +3,8 @@
 ghost use Rattle.std.specs.Prelude.{◌≡◌, ◌<◌, ◌≤◌, ◌+◌, ◌*◌, ◌++◌, ◌∷◌, []};
 ghost use Rattle.std.specs.Prelude.{IfNone, IfOk, IfSome, length};
 ghost use Rattle.rp_generated.specs.InnerLooks.{IsDecided, Looked, LookedFrom, NoneBegins};
+ghost use Rattle.rp_generated.specs.InnerRounds.{StayTypes};
+ghost use Rattle.rp_generated.specs.Rounds.{AreTypes};
 ghost use Rattle.rp_limits.specs.declared.generated.TheConstants.{STEPS};
 ghost use Rattle.rp_patch.specs.PartialTypes.{IsPartialType, taken_in};
 
@@ -51,6 +53,7 @@ fn seek_plainly(
         Looked patches.now (taken_in partial.now) light.old light.new) }
     ensures decided { IfOk result (λ _.
         IsDecided patches.now (taken_in partial.now) light.new) }
+    ensures types { IfOk result (λ _. StayTypes patches.now light.old light.new) }
 {
     prove!(patches.budgets() <= BUDGETS);
     if partial.taken == patches.budgets() {
@@ -75,6 +78,7 @@ pub(crate) fn first_type(alloc: Global, patches: &Patches, steps: u64) -> Result
     ensures few { IfOk result (λ light. 2 * light.steps ≤ STEPS) }
     ensures looked { IfOk result (LookedFrom patches.now steps) }
     ensures decided { IfOk result (IsDecided patches.now []) }
+    ensures types { IfOk result (λ light. AreTypes patches.now light.types.items) }
 {
     let mut light = Lightest {
         weight: 0,

@@ -1,8 +1,11 @@
 //! Rounds of the search: the program over the types so far is solved, and types that are light by its prices are added,
 //! until there is none, or a mixture of these types has the whole total.
-ghost use Rattle.std.specs.Prelude.{◌*◌, ◌≤◌, IfOk, IfSome};
+ghost use Rattle.std.specs.Prelude.{◌*◌, ◌≤◌, IfOk, IfSome, MatchOption, length};
 ghost use Rattle.rp_generated.specs.InnerLooks.{AreFirst, AreListed, LookedFrom, WereMadeIn};
-ghost use Rattle.rp_generated.specs.Steps.{IsWithheldAfter, SomeHasFound};
+ghost use Rattle.rp_generated.specs.InnerRounds.{AddsFirst, EndsWith};
+ghost use Rattle.rp_generated.specs.Rounds.{AreTypes, HasGrown, IsFirstProgram, SomePriceIsWide};
+ghost use Rattle.rp_generated.specs.Steps.{SomeHasFound};
+ghost use Rattle.rp_patch.specs.Patches.{PatchList};
 ghost use Rattle.rp_limits.specs.declared.generated.TheConstants.{STEPS};
 
 use crate::compatible::Compatible;
@@ -25,10 +28,14 @@ const MOST_ROUNDS: u32 = 65_536;
 pub(crate) struct Found {
     pub(crate) part: Option<RandomPart>,
     pub(crate) steps: u64,
+    ghost few: { 2 * steps ≤ STEPS },
 }
 
 /// The program of a row for each patch with its units, and no types yet.
-fn first_program(alloc: Global, patches: &Patches) -> Result<Grown, NoMemory> {
+#[tactic(auto, using(crate::proofs::RoundLaws::units_more))]
+fn first_program(alloc: Global, patches: &Patches) -> Result<Grown, NoMemory>
+    ensures { IfOk result (IsFirstProgram patches.now) }
+{
     let mut units = Vec::new(alloc);
     for i in 0..patches.count() {
         units.push(patches.units(i))?;
@@ -38,7 +45,8 @@ fn first_program(alloc: Global, patches: &Patches) -> Result<Grown, NoMemory> {
 
 /// The prices of the patches; none where one is negative or passes a word.
 fn prices_of(alloc: Global, patches: &Patches, program: &Grown) -> Result<Option<Prices>, NoMemory>
-    ensures { IfOk result (λ found. IfSome found (AreListed patches.now)) }
+    ensures { IfOk result (λ found.
+        MatchOption found (SomePriceIsWide patches.now program.now) (AreListed patches.now)) }
 {
     let mut prices = Vec::new(alloc);
     for i in 0..patches.count() {
@@ -51,9 +59,12 @@ fn prices_of(alloc: Global, patches: &Patches, program: &Grown) -> Result<Option
 }
 
 /// Adds types to the program.
-fn add_all(alloc: Global, program: &mut Grown, types: &[Vec<u32>]) -> Result<(), NoMemory> {
-    for numbers in types {
-        program.add(alloc, numbers.as_slice())?;
+fn add_all(alloc: Global, program: &mut Grown, types: &[Vec<u32>]) -> Result<(), NoMemory>
+    ensures { IfOk result (λ _. (p : PatchList) → AreTypes p types.now
+        → AddsFirst p (length types.now) program.old program.new) }
+{
+    for k in 0..types.len() {
+        program.add(alloc, types[k].as_slice())?;
     }
     Ok(())
 }
@@ -67,7 +78,9 @@ fn found_by(
     steps: u64,
 ) -> Result<Option<Lightest>, NoMemory>
     requires { 2 * steps ≤ STEPS }
-    ensures { IfOk result (λ found. IfSome found (LookedFrom patches.now steps)) }
+    ensures looked { IfOk result (λ found. IfSome found (LookedFrom patches.now steps)) }
+    ensures types { IfOk result (λ found. MatchOption found (SomePriceIsWide patches.now program.now)
+        (λ light. AreTypes patches.now light.types.items)) }
 {
     let Some(prices) = prices_of(alloc, patches, program)? else {
         return Ok(None);
@@ -84,7 +97,8 @@ fn first_types(
     compatible: &Compatible,
     program: &Grown,
 ) -> Result<Lightest, NoMemory>
-    ensures { IfOk result (AreFirst patches.now) }
+    ensures first { IfOk result (AreFirst patches.now) }
+    ensures types { IfOk result (λ light. AreTypes patches.now light.types.items) }
 {
     prove!(patches.budgets() >= 1);
     let Some(light) = found_by(alloc, patches, compatible, program, 0)? else {
@@ -104,11 +118,12 @@ fn later_rounds(
     program: &mut Grown,
     first: u64,
 ) -> Result<Found, NoMemory>
-    requires { WereMadeIn patches.now 2 first (SomeHasFound patches.now) }
-    ensures { IfOk result (λ found. IsWithheldAfter patches.now found.steps) }
+    requires made { WereMadeIn patches.now 2 first (SomeHasFound patches.now) }
+    requires grown { HasGrown patches.now 0 program.old }
+    ensures { IfOk result (λ found. EndsWith patches.now found.part found.steps) }
 {
     let mut steps = first;
-    for _round in 1..MOST_ROUNDS {
+    for _round in 0..MOST_ROUNDS - 1 {
         if !program.solve(alloc, patches.total())? {
             return Ok(Found { part: None, steps });
         }
@@ -134,7 +149,7 @@ fn later_rounds(
 
 /// The rounds. The steps that they tell were made.
 pub(crate) fn rounds(alloc: Global, patches: &Patches) -> Result<Found, NoMemory>
-    ensures { IfOk result (λ found. IsWithheldAfter patches.now found.steps) }
+    ensures { IfOk result (λ found. EndsWith patches.now found.part found.steps) }
 {
     let compatible = Compatible::make(alloc, patches)?;
     let mut program = first_program(alloc, patches)?;

@@ -1,5 +1,7 @@
 use Rattle.std.proofs.Common.{◌≡◌, ◌≢◌, ◌<◌, inl, inr, ap, arith, length, rules, subst, sym, ◌∙◌, List, ℕ}
 use Rattle.rp_generated.specs.InnerLooks.{NoneBegins}
+use Rattle.rp_patch.specs.Types.{IsRationalType}
+use Rattle.rp_generated.proofs.RoundLaws.{ok_so, same_types, type_taken}
 use Rattle.rp_patch.specs.PartialTypes.{taken_in}
 use Rattle.rp_patch.specs.Patches.{budget_at}
 use Rattle.rp_patch.proofs.SearchLaws.{excluded_by_budget, whole_type}
@@ -12,9 +14,17 @@ returns-then-partial-budgets-clause-looked t c =
     if_ok c.take.result _ (λ x. whole_found c.args.patches.now (taken_in c.args.partial.now) _ _ _ _ c.take.ensures.steps
     (whole_type c.args.patches.now c.args.partial.now c.requires (c.if-partial-budgets.true ∙ c.budgets-2.ensures.count) c.requires.0.count))
 
+pub returns-then-partial-budgets-clause-types : goal.returns-then-partial-budgets-clause-types
+returns-then-partial-budgets-clause-types t c =
+    let p = c.args.patches.now in
+    let part = c.args.partial.now in
+    let rational = whole_type p part c.requires (c.if-partial-budgets.true ∙ c.budgets-2.ensures.count) c.requires.0.count in
+    ok_so c.take.result _ _ c.take.ensures.last (λ x adds. type_taken p c.patches.result.now c.args.light.now c.take.new.self (subst (λ (xs : List ℕ). IsRationalType p xs) (sym c.patches.ensures) rational) adds)
+
 pub loop-i-init : goal.loop-i-init
 loop-i-init t c = record {
   looked = start_looking c.args.patches.now (taken_in c.args.partial.now) (λ i. i) (length c.args.patches.now.patches) c.args.light.now.steps (length c.args.light.now.types.items);
+  types = λ are. are;
   decided = λ none. inr (λ h l. absurd (omega (arith, l)));
 }
 
@@ -32,6 +42,7 @@ loop-i-preserved t c =
           rw w.light-is (record {
             looked = plain_looked p part (length p.patches) i _ _ _ _ _ _ inside inside (sym c.budget_of.ensures.exact ∙ w.if-budget_of-partial.true) c.requires so_far.looked _ _ _
                 w.look_plainly.ensures.counted w.in-Some.ensures.longer (ap (λ types. length types.items) w.look_plainly.ensures.types) w.in_ok-seek_plainly.ensures.looked;
+            types = λ are. w.in_ok-seek_plainly.ensures.types (same_types p _ _ w.look_plainly.ensures.types (so_far.types are));
             decided = λ none. elim (w.in_ok-seek_plainly.ensures.decided none) [
               | inl spent ↦ inl spent
               | inr here ↦ elim (so_far.decided none_before) [
@@ -44,6 +55,7 @@ loop-i-preserved t c =
           rw w.light-is (record {
             looked = plain_none p part (length p.patches) i _ _ _ _ inside inside (sym c.budget_of.ensures.exact ∙ w.if-budget_of-partial.true) c.requires so_far.looked _ _
                 w.look_plainly.ensures.counted (ap (λ types. length types.items) w.look_plainly.ensures.types);
+            types = λ are. same_types p _ _ w.look_plainly.ensures.types (so_far.types are);
             decided = λ none. elim (so_far.decided none_before) [
               | inl spent ↦ absurd (omega (arith, spent, c.if-is_given_up.ensures.left))
               | inr before ↦ inr (decided_next p front i before w.in_default.ensures.excluded)
@@ -52,6 +64,7 @@ loop-i-preserved t c =
       | else-budget_of-partial w ↦
           rw w.light-is (record {
             looked = passed_over p front (λ k. k) (length p.patches) i _ _ _ _ so_far.looked;
+            types = so_far.types;
             decided = λ none. elim (so_far.decided none) [
               | inl spent ↦ inl spent
               | inr before ↦

@@ -1,28 +1,33 @@
-use Rattle.std.proofs.Common.{◌<◌, IfSome, Option, arith, inl, length, rules, subst}
+use Rattle.std.proofs.Common.{◌<◌, IfSome, MatchOption, Option, arith, inl, length, rules, subst}
+use Rattle.rp_generated.specs.Rounds.{AreTypes, SomePriceIsWide}
 use Rattle.rp_generated.specs.InnerLooks.{LookedFrom}
 use Rattle.rp_generated.specs.declared.looked.Lightest.{Lightest}
 use Rattle.rp_generated.proofs.Looks.{one_search, plain_after, plain_alone}
 use Rattle.rp_generated.proofs.rounds.first_types.Goals as goal
 use Rattle.rp_generated.proofs.rounds.first_types.Goals.{then-is_given_up-via-then-is_given_up, then-is_given_up-via-else-is_given_up+then-not-is_empty}
 
-pub returns-in_default : goal.returns-in_default
-returns-in_default c =
+pub returns-in_default-clause-first : goal.returns-in_default-clause-first
+returns-in_default-clause-first c =
     plain_alone c.args.patches.now c.first_type.result c.budgets.ensures.valid.some_budgets c.first_type.ensures.looked c.first_type.ensures.few c.first_type.ensures.decided
 
-pub returns-then-is_given_up : goal.returns-then-is_given_up
-returns-then-is_given_up c =
+pub returns-then-is_given_up-clause-first : goal.returns-then-is_given_up-clause-first
+returns-then-is_given_up-clause-first c =
     let p = c.args.patches.now in
     let light = c.in-Some.light in
-    let under = subst (λ (found : Option Lightest). IfSome found (LookedFrom p 0)) c.in-Some.is c.in_ok-light.ensures in
+    let under = subst (λ (found : Option Lightest). IfSome found (LookedFrom p 0)) c.in-Some.is c.in_ok-light.ensures.looked in
     one_search p light c.budgets.ensures.valid.some_budgets under light.few (elim c.then-is_given_up.branch [
       | then-is_given_up-via-then-is_given_up w ↦ (λ none. inl (c.is_given_up.ensures.spent w.if-is_given_up.true))
       | then-is_given_up-via-else-is_given_up+then-not-is_empty w ↦
           (let some : 0 < length light.types.items = search rules in λ none. absurd (omega (arith, none, some)))
     ])
 
-pub returns : goal.returns
-returns c =
+pub returns-clause-first : goal.returns-clause-first
+returns-clause-first c =
     let p = c.args.patches.now in
     let light = c.in-Some.light in
-    let under = subst (λ (found : Option Lightest). IfSome found (LookedFrom p 0)) c.in-Some.is c.in_ok-light.ensures in
+    let under = subst (λ (found : Option Lightest). IfSome found (LookedFrom p 0)) c.in-Some.is c.in_ok-light.ensures.looked in
     plain_after p light c.first_type-2.result c.budgets.ensures.valid.some_budgets under light.few c.first_type-2.ensures.looked c.first_type-2.ensures.few c.first_type-2.ensures.decided
+
+pub returns-then-is_given_up-clause-types : goal.returns-then-is_given_up-clause-types
+returns-then-is_given_up-clause-types c =
+    subst (λ (found : Option Lightest). MatchOption found (SomePriceIsWide c.args.patches.now c.args.program.now) (λ light. AreTypes c.args.patches.now light.types.items)) c.in-Some.is c.in_ok-light.ensures.types

@@ -1,24 +1,101 @@
-use Rattle.std.proofs.Common.{◌+◌, IfSome, Option, arith, length, subst}
-use Rattle.rp_generated.specs.InnerLooks.{LookedFrom}
+use Rattle.std.proofs.Common.{◌≡◌, ◌<◌, ◌+◌, ℕ, IfSome, Option, arith, length, rules, subst}
+use Rattle.std.specs.Prelude.{MatchBool, MatchOption}
+use Rattle.rp_generated.specs.InnerLooks.{LookedFrom, WereMadeIn}
+use Rattle.rp_generated.specs.Rounds.{AreTypes, SomePriceIsWide}
+use Rattle.rp_generated.specs.Steps.{SomeHasFound}
 use Rattle.rp_generated.specs.declared.looked.Lightest.{Lightest}
-use Rattle.rp_generated.proofs.Looks.{round_made, withheld_found}
+use Rattle.rp_generated.proofs.Looks.{round_made, withheld_spent}
+use Rattle.rp_generated.proofs.RoundLaws.{adds_seen, ended_by_evidence, ended_by_pivots, ended_by_price, ended_by_rounds, ends, next_grown}
+use Rattle.rp_whole_tableau.specs.Programs.{IsLeft, IsSolvedBy}
 use Rattle.rp_generated.proofs.rounds.later_rounds.Goals as goal
 
-pub loop-round-preserved : goal.loop-round-preserved
-loop-round-preserved c =
-    let under = subst (λ (found : Option Lightest). IfSome found (LookedFrom c.args.patches.now c.loop-round.steps)) c.in-Some.is c.in_ok-light.ensures in
-    round_made c.args.patches.now (c.loop-round._round + 1) c.loop-round.steps c.in-Some.light.steps (length c.in-Some.light.types.items) c.loop-round.invariant under c.in-Some.light.few
+pub returns-then-not-branch : goal.returns-then-not-branch
+returns-then-not-branch c =
+    let p = c.args.patches.now in
+    let round = c.loop-round._round in
+    let before = c.loop-round.program in
+    let well = c.in_ok-solve.field-0 in
+    let solves = subst (λ (much : ℕ). MatchBool well (IsSolvedBy much before c.solve.new.self) (IsLeft before)) c.total.ensures c.in_ok-solve.ensures in
+    let made = c.loop-round.invariant.made in
+    let grown = c.loop-round.invariant.grown in
+    ended_by_pivots p (round + 2) c.loop-round.steps round before (omega (arith, c.loop-round-test.true)) made grown (omega (arith, c.loop-round-test.true)) _ well c.if-not-branch.true solves
+
+pub returns-then-has : goal.returns-then-has
+returns-then-has c =
+    let p = c.args.patches.now in
+    let round = c.loop-round._round in
+    let before = c.loop-round.program in
+    let well = c.in_ok-solve.field-0 in
+    let solves = subst (λ (much : ℕ). MatchBool well (IsSolvedBy much before c.solve.new.self) (IsLeft before)) c.total.ensures c.in_ok-solve.ensures in
+    let made = c.loop-round.invariant.made in
+    let grown = c.loop-round.invariant.grown in
+    ends p c.loop-round.steps c.solve.new.self c.in_ok-part.part c.in_ok-part.ensures
+    (ended_by_evidence p (round + 2) c.loop-round.steps round before (omega (arith, c.loop-round-test.true)) made grown (omega (arith, c.loop-round-test.true)) _ c.solve.new.self well c.if-not-branch.false solves)
+
+pub returns-in_default : goal.returns-in_default
+returns-in_default c =
+    let p = c.args.patches.now in
+    let round = c.loop-round._round in
+    let before = c.loop-round.program in
+    let well = c.in_ok-solve.field-0 in
+    let solves = subst (λ (much : ℕ). MatchBool well (IsSolvedBy much before c.solve.new.self) (IsLeft before)) c.total.ensures c.in_ok-solve.ensures in
+    let made = c.loop-round.invariant.made in
+    let grown = c.loop-round.invariant.grown in
+    let wide : SomePriceIsWide p c.solve.new.self = search rules in
+    ended_by_price p (round + 2) c.loop-round.steps round before (omega (arith, c.loop-round-test.true)) made grown (omega (arith, c.loop-round-test.true)) _ c.solve.new.self well c.if-not-branch.false solves wide
 
 pub returns-then-is_given_up : goal.returns-then-is_given_up
 returns-then-is_given_up c =
     let p = c.args.patches.now in
-    let under = subst (λ (found : Option Lightest). IfSome found (LookedFrom c.args.patches.now c.loop-round.steps)) c.in-Some.is c.in_ok-light.ensures in
-    withheld_found p (c.loop-round._round + 1 + 1) c.in-Some.light.steps (omega (arith, c.loop-round-test.true))
-    (round_made p (c.loop-round._round + 1) c.loop-round.steps c.in-Some.light.steps (length c.in-Some.light.types.items) c.loop-round.invariant under c.in-Some.light.few)
+    let round = c.loop-round._round in
+    let before = c.loop-round.program in
+    let well = c.in_ok-solve.field-0 in
+    let solves = subst (λ (much : ℕ). MatchBool well (IsSolvedBy much before c.solve.new.self) (IsLeft before)) c.total.ensures c.in_ok-solve.ensures in
+    let made = c.loop-round.invariant.made in
+    let grown = c.loop-round.invariant.grown in
+    let light = c.in-Some.light in
+    let under = subst (λ (found : Option Lightest). IfSome found (LookedFrom p c.loop-round.steps)) c.in-Some.is c.in_ok-light.ensures.looked in
+    let later = round_made p (round + 2) c.loop-round.steps light.steps (length light.types.items) made under light.few in
+    withheld_spent p (round + 2 + 1) light.steps (omega (arith, c.loop-round-test.true)) later (c.is_given_up.ensures.spent c.if-is_given_up.true)
 
 pub returns-then-is_empty : goal.returns-then-is_empty
 returns-then-is_empty c =
     let p = c.args.patches.now in
-    let under = subst (λ (found : Option Lightest). IfSome found (LookedFrom c.args.patches.now c.loop-round.steps)) c.in-Some.is c.in_ok-light.ensures in
-    withheld_found p (c.loop-round._round + 1 + 1) c.in-Some.light.steps (omega (arith, c.loop-round-test.true))
-    (round_made p (c.loop-round._round + 1) c.loop-round.steps c.in-Some.light.steps (length c.in-Some.light.types.items) c.loop-round.invariant under c.in-Some.light.few)
+    let round = c.loop-round._round in
+    let before = c.loop-round.program in
+    let well = c.in_ok-solve.field-0 in
+    let solves = subst (λ (much : ℕ). MatchBool well (IsSolvedBy much before c.solve.new.self) (IsLeft before)) c.total.ensures c.in_ok-solve.ensures in
+    let made = c.loop-round.invariant.made in
+    let grown = c.loop-round.invariant.grown in
+    let light = c.in-Some.light in
+    let under = subst (λ (found : Option Lightest). IfSome found (LookedFrom p c.loop-round.steps)) c.in-Some.is c.in_ok-light.ensures.looked in
+    let later = round_made p (round + 2) c.loop-round.steps light.steps (length light.types.items) made under light.few in
+    ends p light.steps c.solve.new.self c.in_ok-part-2.part c.in_ok-part-2.ensures
+    (ended_by_evidence p (round + 2 + 1) light.steps round before (omega (arith, c.loop-round-test.true)) later grown (omega (arith, c.loop-round-test.true)) _ c.solve.new.self well c.if-not-branch.false solves)
+
+pub loop-round-preserved : goal.loop-round-preserved
+loop-round-preserved c =
+    let p = c.args.patches.now in
+    let round = c.loop-round._round in
+    let before = c.loop-round.program in
+    let well = c.in_ok-solve.field-0 in
+    let solves = subst (λ (much : ℕ). MatchBool well (IsSolvedBy much before c.solve.new.self) (IsLeft before)) c.total.ensures c.in_ok-solve.ensures in
+    let made = c.loop-round.invariant.made in
+    let grown = c.loop-round.invariant.grown in
+    let light = c.in-Some.light in
+    let under = subst (λ (found : Option Lightest). IfSome found (LookedFrom p c.loop-round.steps)) c.in-Some.is c.in_ok-light.ensures.looked in
+    let later = round_made p (round + 2) c.loop-round.steps light.steps (length light.types.items) made under light.few in
+    let types = subst (λ (found : Option Lightest). MatchOption found (SomePriceIsWide p c.solve.new.self) (λ light. AreTypes p light.types.items)) c.in-Some.is c.in_ok-light.ensures.types in
+    let some : 0 < length light.types.items = search rules in
+    record {
+      made = subst (λ (n : ℕ). WereMadeIn p n light.steps (SomeHasFound p)) (omega arith) later;
+      grown = next_grown _ p round (length light.types.items) before c.solve.new.self c.add_all.new.program well grown c.if-not-branch.false solves some
+          (adds_seen p light.types.items c.as_slice.result.now c.solve.new.self c.add_all.new.program c.as_slice.ensures.value c.in_ok-add_all.ensures types);
+    }
+
+pub returns : goal.returns
+returns c =
+    let p = c.args.patches.now in
+    let round = c.loop-round._round in
+    let all : round ≡ 65535 = search rules in
+    ended_by_rounds p (round + 2) c.loop-round.steps round c.loop-round.program (omega (arith, all)) c.loop-round.invariant.made c.loop-round.invariant.grown (omega (arith, all)) all
