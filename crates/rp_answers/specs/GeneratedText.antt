@@ -18,8 +18,8 @@ use Rattle.rp_report.specs.RandomText.{random_report_text}
 
 -- the one item proves its verdict over all rational types, shows the greatest share and says so of persons, the checker
 -- accepts it within its steps, and the text of the certificate is read back as the same. Where it is withheld, the steps
--- that are told were made by searches, and these are spent, or found a rational type, or there is none. How a mixture is
--- found is not stated here
+-- that are told were made by searches, and these are spent, or there is no rational type, or the rounds over the types
+-- that were found ended without evidence. How a mixture is found is not stated here
 pub record IsGeneratedAnswer (p : PatchList) (certificate : Certificate) : Type 0 where
   pub evidence : RandomPart
   pub item : certificate ≡ random_certificate p.total evidence
