@@ -1,13 +1,14 @@
 //! The JSON text of a certificate.
-ghost use Rattle.std.specs.Prelude.{◌≡◌, IfOk};
-ghost use Rattle.serde_json.specs.View.{view};
+ghost use Rattle.std.specs.Prelude.{◌≡◌, IfOk, codes};
+ghost use Rattle.serde_json.specs.Data.{member, no_members, string};
+ghost use Rattle.serde_json.specs.View.{members_view, view};
 ghost use Rattle.rp_json.specs.CertificateValue.{certificate_text, certificate_value, item_value};
 ghost use Rattle.rp_json.specs.CertificateValue.{kind_name};
 ghost use Rattle.rp_json_entries.specs.Values.{list_value};
 
 use rp_evidence::{Certificate, Item, Kind};
-use rp_json_entries::lists::list_value;
 use rp_json_entries::numbers::Count;
+use rp_json_entries::objects::put_entry;
 use rp_json_programs::demand::demand_value;
 use rp_json_programs::random::random_value;
 use rp_json_programs::welfare::welfare_value;
@@ -16,8 +17,8 @@ use rp_json_tests::efficiency::efficiency_value;
 use rp_json_tests::garp::garp_value;
 use rp_json_tests::homothetic::homothetic_value;
 use rp_json_tests::quasilinear::quasilinear_value;
-use rp_num::NoMemory;
-use serde_json::{Value, json};
+use rp_num::{NoMemory, Seq};
+use serde_json::{Map, Value, put};
 use std::alloc::Global;
 
 #[tactic(auto, using(crate::proofs::NoFloats::certificate_has_none))]
@@ -35,13 +36,28 @@ pub fn write(alloc: Global, certificate: &Certificate) -> Result<Vec<u8>, NoMemo
 fn certificate_value(alloc: Global, certificate: &Certificate) -> Result<Value, NoMemory>
     ensures { IfOk result (λ v. view v ≡ certificate_value certificate.now) }
 {
-    let items = items_value(alloc, certificate.items.as_slice())?;
-    let kind = kind_name(certificate.kind);
+    let mut members = first_members(alloc, certificate)?;
     if certificate.version == 2 {
-        let levels = list_value::<Count>(alloc, certificate.levels.as_slice())?;
-        return Ok(json!(in alloc; {"items": items, "kind": kind, "levels": levels, "version": 2})?);
+        put_entry::<Seq<Count>>(&mut members, alloc, "levels", &certificate.levels)?;
+        put_entry::<Count>(&mut members, alloc, "version", &2)?;
+        return Ok(Value::Object(members));
     }
-    Ok(json!(in alloc; {"items": items, "kind": kind, "version": certificate.version})?)
+    put_entry::<Count>(&mut members, alloc, "version", &certificate.version)?;
+    Ok(Value::Object(members))
+}
+
+/// The first members of the object of a certificate: its items, and what it is about.
+fn first_members(alloc: Global, certificate: &Certificate) -> Result<Map<String, Value>, NoMemory>
+    ensures { IfOk result (λ members. members_view members.entries
+        ≡ member (codes "items") (list_value item_value certificate.now.items)
+        (member (codes "kind") (string (kind_name certificate.now.kind)) no_members)) }
+{
+    let mut members = Map::new(alloc);
+    let items = items_value(alloc, certificate.items.as_slice())?;
+    put(&mut members, alloc, "items", items)?;
+    let kind = Value::try_from_str(alloc, kind_name(certificate.kind))?;
+    put(&mut members, alloc, "kind", kind)?;
+    Ok(members)
 }
 
 /// What a certificate of this kind says that it is about.
