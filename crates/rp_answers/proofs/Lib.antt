@@ -6,6 +6,7 @@ pub mod GarpFirstLemmas
 pub mod GarpTestLemmas
 pub mod OneWithinFinding
 pub mod ReadBackLemmas
+pub mod ResultLemmas
 pub mod TrialLemmas
 pub mod UtilityLemmas
 pub mod SaysLemmas

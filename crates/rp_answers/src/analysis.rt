@@ -3,14 +3,12 @@ ghost use Rattle.std.specs.Prelude.{◌≡◌, IfOk};
 ghost use Rattle.rp_evidence.specs.Input.{input_of_table};
 ghost use Rattle.rp_answers.specs.AnalysisText.{IsAnalysis, IsAnalysisTextBy, five_items};
 
+use crate::by_costs::{VerdictsByCosts, verdicts_by_costs};
 use crate::edition::Edition;
 use rp_afriat::afriat;
-use rp_effic::efficiency;
-use rp_evidence::{AfriatPart, Certificate, Efficiency, Garp, Homothetic, Item, Quasi};
+use rp_evidence::{AfriatPart, Certificate, Item};
 use rp_garp::GarpTest;
-use rp_homo::homothetic;
 use rp_num::NoMemory;
-use rp_quasi::quasilinear;
 use rp_table::Table;
 use std::alloc::Global;
 
@@ -33,18 +31,8 @@ fn analyse(alloc: Global, table: &Table) -> Result<Certificate, NoMemory>
 {
     let tested = GarpTest::of(alloc, table)?;
     let afriat = afriat(alloc, &tested)?;
-    let costs = &tested.costs;
-    let efficiency = efficiency(alloc, costs)?;
-    let homothetic = homothetic(alloc, costs)?;
-    let quasilinear = quasilinear(alloc, costs)?;
-    let items = five_items(
-        alloc,
-        tested.garp,
-        afriat,
-        efficiency,
-        homothetic,
-        quasilinear,
-    )?;
+    let others = verdicts_by_costs(alloc, &tested.costs)?;
+    let items = five_items(alloc, tested, afriat, others)?;
     let certificate = Certificate::of_table(alloc, table.levels(), items)?;
     Ok(certificate)
 }
@@ -52,20 +40,22 @@ fn analyse(alloc: Global, table: &Table) -> Result<Certificate, NoMemory>
 /// These five items, in order.
 fn five_items(
     alloc: Global,
-    garp: Garp,
+    tested: GarpTest,
     afriat: AfriatPart,
-    efficiency: Efficiency,
-    homothetic: Homothetic,
-    quasilinear: Quasi,
+    others: VerdictsByCosts,
 ) -> Result<Vec<Item>, NoMemory>
-    ensures { IfOk result (λ made. made.items
-        ≡ five_items garp afriat efficiency homothetic quasilinear) }
+    ensures { IfOk result (λ made. made.items ≡ five_items tested.garp afriat
+        others.efficiency others.homothetic others.quasilinear) }
 {
-    let mut items = Vec::new(alloc);
-    items.push(Item::Garp(garp))?;
-    items.push(Item::Afriat(afriat))?;
-    items.push(Item::Efficiency(efficiency))?;
-    items.push(Item::Homothetic(homothetic))?;
-    items.push(Item::Quasi(quasilinear))?;
-    Ok(items)
+    let items = [
+        Item::Garp(tested.garp),
+        Item::Afriat(afriat),
+        Item::Efficiency(others.efficiency),
+        Item::Homothetic(others.homothetic),
+        Item::Quasi(others.quasilinear),
+    ];
+    match Vec::from_array(alloc, items) {
+        Ok(made) => Ok(made),
+        Err(_) => Err(NoMemory),
+    }
 }

@@ -3,6 +3,7 @@
 
 mod analysis;
 mod answer;
+mod by_costs;
 mod check;
 mod choice_limits;
 mod cost;

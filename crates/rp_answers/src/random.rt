@@ -1,5 +1,5 @@
 //! The answer of `random`.
-ghost use Rattle.std.specs.Prelude.{IfOk};
+ghost use Rattle.std.specs.Prelude.{◌≡◌, IfOk, length};
 ghost use Rattle.rp_answers.specs.ChoicesText.{IsChoicesText};
 ghost use Rattle.rp_answers.specs.GeneratedText.{IsGeneratedAnswer, IsGeneratedText};
 ghost use Rattle.rp_answers.specs.RandomText.{IsRandomAnswer, IsRandomText};
@@ -46,9 +46,17 @@ fn listed_text(
     if json {
         write(alloc, &certificate)
     } else {
-        let count = types.as_slice().len() as u32;
+        let count = count_of(patches, types);
         report_random(alloc, &certificate, patches, Some(count))
     }
+}
+
+/// How many rational types are listed.
+fn count_of(_patches: &Patches, types: &Seq<Rational>) -> u32
+    requires { AreTyped (typed _patches.now types.now) }
+    ensures { result ≡ length (typed _patches.now types.now).types }
+{
+    types.as_slice().len() as u32
 }
 
 /// The certificate on choices whose rational types are listed.

@@ -8,14 +8,12 @@ ghost use Rattle.rp_answers.specs.TrialText.{AreVerdicts, IsTrialTextBy};
 
 mod table;
 
+use crate::by_costs::verdicts_by_costs;
 use crate::edition::Edition;
-use rp_effic::efficiency;
 use rp_evidence::{Efficiency, Garp, Homothetic, Quasi};
 use rp_garp::garp;
-use rp_homo::homothetic;
 use rp_num::NoMemory;
 use rp_print::{LongNumber, Number, push_after, push_line};
-use rp_quasi::quasilinear;
 use rp_report::push_index;
 use rp_table::{Costs, Table};
 use std::alloc::Global;
@@ -74,14 +72,12 @@ fn verdicts_on(alloc: Global, table: &Table) -> Result<Verdicts, NoMemory>
     prove!(table.n() >= 1);
     let costs = Costs::of(alloc, table)?;
     let garp = garp(alloc, &costs)?;
-    let efficiency = efficiency(alloc, &costs)?;
-    let homothetic = homothetic(alloc, &costs)?;
-    let quasilinear = quasilinear(alloc, &costs)?;
+    let others = verdicts_by_costs(alloc, &costs)?;
     Ok(Verdicts {
         garp,
-        efficiency,
-        homothetic,
-        quasilinear,
+        efficiency: others.efficiency,
+        homothetic: others.homothetic,
+        quasilinear: others.quasilinear,
     })
 }
 

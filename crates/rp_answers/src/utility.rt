@@ -2,6 +2,7 @@
 ghost use Rattle.std.specs.Prelude.{◌≡◌, ◌++◌, IfOk, All, codes, length};
 ghost use Rattle.std.specs.Fmt.{signed_decimal};
 ghost use Rattle.rp_afriat.specs.AfriatVerdict.{IsOwnAfriatVerdict};
+ghost use Rattle.rp_report.specs.ReportText.{report_text};
 ghost use Rattle.rp_table.specs.Cost.{IsCostsOf, cost_at};
 ghost use Rattle.rp_table.specs.Limits.{IsQuantity};
 ghost use Rattle.rp_table.specs.Rows.{rows_count};
@@ -27,9 +28,23 @@ pub fn utility_text(alloc: Global, table: &Table, bundles: &Bundles) -> Result<V
     let tested = GarpTest::of(alloc, table)?;
     let afriat = afriat(alloc, &tested)?;
     let lines = utility_lines(alloc, table, &tested.costs, &afriat, bundles)?;
-    let certificate = certificate(alloc, table, tested.garp, afriat)?;
-    let mut text = report(alloc, &certificate, table)?;
+    let mut text = first_report(alloc, table, tested, afriat)?;
     text.extend_from_slice(lines.as_slice())?;
+    Ok(text)
+}
+
+/// The report of the certificate of a table with these two items.
+fn first_report(
+    alloc: Global,
+    table: &Table,
+    tested: GarpTest,
+    afriat: AfriatPart,
+) -> Result<Vec<u8>, NoMemory>
+    ensures { IfOk result (λ text. text.items
+        ≡ report_text table.now (first_items table.now.levels tested.garp afriat).items) }
+{
+    let certificate = certificate(alloc, table, tested.garp, afriat)?;
+    let text = report(alloc, &certificate, table)?;
     Ok(text)
 }
 

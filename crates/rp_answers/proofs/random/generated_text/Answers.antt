@@ -1,13 +1,9 @@
-use Rattle.std.proofs.Common.{Bool, Result, Ok, Err, IfOk, slice_index_or, subst, sym}
+use Rattle.std.proofs.Common.{Bool, slice_index_or, subst, sym}
 use Rattle.rp_answers.proofs.OneWithinFinding.{item_passes_without_limit}
+use Rattle.rp_answers.proofs.ResultLemmas.{if_ok}
 use Rattle.rp_answers.specs.GeneratedText.{IsGeneratedText}
 use Rattle.rp_limits.specs.declared.generated.TheConstants.{STEPS}
 use Rattle.rp_answers.proofs.random.generated_text.Goals as goal
-
--- what follows for each value follows for the value of an answer
-if_ok : {T E : Type 0} (answer : Result T E) {P Q : T → Type 0} → ((value : T) → P value → Q value) → IfOk answer P → IfOk answer Q
-if_ok (Ok value) more is = more value is
-if_ok (Err cause) more is = is
 
 pub report_random-requires-clause-nothing_wrong : goal.report_random-requires-clause-nothing_wrong
 report_random-requires-clause-nothing_wrong c = λ k d within.

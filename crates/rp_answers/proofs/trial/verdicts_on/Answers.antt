@@ -27,22 +27,22 @@ returns c =
     let table = c.args.table.now in
     let input = input_of_table table in
     let garp = c.in_ok-garp.garp in
-    let efficiency = c.in_ok-efficiency.efficiency in
-    let homothetic = c.in_ok-homothetic.homothetic in
-    let quasilinear = c.in_ok-quasilinear.quasilinear in
+    let efficiency = c.in_ok-others.others.efficiency in
+    let homothetic = c.in_ok-others.others.homothetic in
+    let quasilinear = c.in_ok-others.others.quasilinear in
     let garp_proves : Proves input (GarpItem garp) = garp_there costs table is garp c.in_ok-garp.ensures.proves in
-    let efficiency_proves : Proves input (EfficiencyItem efficiency) = rw (← is.size) (efficiency_same n here there efficiency same c.in_ok-efficiency.ensures.proves) in
-    let homothetic_proves : Proves input (HomotheticItem homothetic) = rw (← is.size) (homothetic_same n here there homothetic same c.in_ok-homothetic.ensures.proves) in
-    let quasilinear_proves : Proves input (QuasiItem quasilinear) = rw (← is.size) (quasilinear_same n here there quasilinear same c.in_ok-quasilinear.ensures.proves) in
+    let efficiency_proves : Proves input (EfficiencyItem efficiency) = rw (← is.size) (efficiency_same n here there efficiency same c.in_ok-others.ensures.efficiency_proves) in
+    let homothetic_proves : Proves input (HomotheticItem homothetic) = rw (← is.size) (homothetic_same n here there homothetic same c.in_ok-others.ensures.homothetic_proves) in
+    let quasilinear_proves : Proves input (QuasiItem quasilinear) = rw (← is.size) (quasilinear_same n here there quasilinear same c.in_ok-others.ensures.quasilinear_proves) in
     record {
       garp_proves = garp_proves;
       garp_given = rw (← is.size) (garp_verdict_same n here there same c.in_ok-garp.garp (c.in_ok-garp.ensures.given_without_levels none));
       efficiency_proves = efficiency_proves;
-      efficiency_given = rw (← is.size) (efficiency_verdict_same n here there c.in_ok-efficiency.efficiency same c.in_ok-efficiency.ensures.given);
+      efficiency_given = rw (← is.size) (efficiency_verdict_same n here there c.in_ok-others.others.efficiency same c.in_ok-others.ensures.efficiency_given);
       homothetic_proves = homothetic_proves;
-      homothetic_given = rw (← is.size) (homothetic_verdict_same n here there c.in_ok-homothetic.homothetic same c.in_ok-homothetic.ensures.verdict);
+      homothetic_given = rw (← is.size) (homothetic_verdict_same n here there c.in_ok-others.others.homothetic same c.in_ok-others.ensures.homothetic_given);
       quasilinear_proves = quasilinear_proves;
-      quasilinear_given = rw (← is.size) (quasilinear_verdict_same n here there c.in_ok-quasilinear.quasilinear same c.in_ok-quasilinear.ensures.verdict);
+      quasilinear_given = rw (← is.size) (quasilinear_verdict_same n here there c.in_ok-others.others.quasilinear same c.in_ok-others.ensures.quasilinear_given);
       says =
           says_too table c.n.ensures.valid (GarpItem garp) (EfficiencyItem efficiency ∷ HomotheticItem homothetic ∷ QuasiItem quasilinear ∷ []) garp_proves
           (says_too table c.n.ensures.valid (EfficiencyItem efficiency) (HomotheticItem homothetic ∷ QuasiItem quasilinear ∷ []) efficiency_proves

@@ -5,7 +5,6 @@ use Rattle.rp_evidence.specs.declared.certificate.Item.TheVariants.{Garp as Garp
 use Rattle.rp_answers.proofs.AcceptedLemmas.{first_accepted}
 use Rattle.rp_answers.proofs.GarpFirstLemmas.{afriat_given_there, afriat_there, garp_given_there, garp_there}
 use Rattle.std.proofs.Common.{◌++◌, ◌∙◌, ap, [], ◌∷◌}
-use Rattle.rp_report.specs.ReportText.{report_text}
 use Rattle.rp_answers.proofs.SaysLemmas.{none_says, says_too}
 use Rattle.rp_answers.proofs.utility.utility_text.Goals as goal
 
@@ -37,5 +36,5 @@ returns c =
       text_is =
           c.in_ok-extend_from_slice.ensures.items
           ∙ ap (λ l. c.in_ok-text.text.items ++ l) c.as_slice.ensures.value
-          ∙ ap (λ t. t ++ c.in_ok-lines.lines.items) (c.in_ok-text.ensures ∙ ap (λ made. report_text c.args.table.now made.items) c.in_ok-certificate.ensures);
+          ∙ ap (λ t. t ++ c.in_ok-lines.lines.items) c.in_ok-text.ensures;
     }
