@@ -104,11 +104,11 @@ found_beside input garp stated found made filled rest e is last =
     found_last input garp stated found filled rest (subst (λ (c : Certificate). IsFilledCertificate input c filled) e is) last
 
 -- the certificate of the two items, from what the calls that make it say
-pub made_of : (levels : List ℕ) (garp copy : Garp) (item : Item) (first both : List Item) (made : Certificate) → levels ≡ [] → copy ≡ garp → first ≡ GarpItem copy ∷ [] → both ≡ first ++ item ∷ [] → made ≡ table_certificate levels both
+pub made_of : (levels : List ℕ) (garp copy : Garp) (item : Item) (both : List Item) (made : Certificate) → levels ≡ [] → copy ≡ garp → both ≡ GarpItem copy ∷ item ∷ [] → made ≡ table_certificate levels both
     → made ≡ certificate_from [] garp (item ∷ [])
-made_of levels garp copy item first both made none same one two e =
+made_of levels garp copy item both made none same are e =
     e ∙ ap (λ (l : List ℕ). table_certificate l both) none
-    ∙ ap (λ (items : List Item). table_certificate [] items) (two ∙ ap (λ (items : List Item). items ++ item ∷ []) (one ∙ ap (λ (g : Garp). GarpItem g ∷ []) same))
+    ∙ ap (λ (items : List Item). table_certificate [] items) (are ∙ ap (λ (g : Garp). GarpItem g ∷ item ∷ []) same)
 
 pub two_items : (input : TableInput) (garp : Garp) (stated : Item) (made filled : Certificate) → made ≡ certificate_from [] garp (stated ∷ []) → IsFilledCertificate input made filled → length filled.items ≡ 2
 two_items input garp stated made filled e is = is.items.one_each ∙ ap (λ (c : Certificate). length c.items) e

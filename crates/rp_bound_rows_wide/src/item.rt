@@ -5,6 +5,7 @@ ghost use Rattle.rp_agreement.specs.ReadBack.{IsReadBack, certificate_from};
 ghost use Rattle.rp_check.specs.CheckVerdict.{IsCheckVerdict};
 ghost use Rattle.rp_check.specs.declared.verdict.Verdict.TheVariants.{Accepted};
 ghost use Rattle.rp_evidence.specs.Input.{input_of_table};
+ghost use Rattle.rp_evidence.specs.declared.certificate.Item.TheVariants.{Garp as GarpItem};
 ghost use Rattle.rp_evidence.specs.declared.certificate.Kind.TheVariants.{Table as TableKind};
 ghost use Rattle.rp_garp.specs.Test.{IsTestOf};
 ghost use Rattle.rp_bound_rows_wide.specs.InnerItems.{HasSmallRanks, IsFoundBeside};
@@ -54,11 +55,19 @@ fn certificate_of(
     ensures read_back { IfOk result (IsReadBack TableKind) }
 {
     let garp = copy_of(alloc, &tested.garp)?;
-    let mut items = Vec::new(alloc);
-    items.push(Item::Garp(garp))?;
-    items.push(item)?;
+    let items = both_items(alloc, garp, item)?;
     let certificate = Certificate::of_table(alloc, table.levels(), items)?;
     Ok(certificate)
+}
+
+/// The verdict on the axiom and the item, in order.
+fn both_items(alloc: Global, garp: Garp, item: Item) -> Result<Vec<Item>, NoMemory>
+    ensures { IfOk result (λ made. made.items ≡ GarpItem garp ∷ item ∷ []) }
+{
+    match Vec::from_array(alloc, [Item::Garp(garp), item]) {
+        Ok(made) => Ok(made),
+        Err(_) => Err(NoMemory),
+    }
 }
 
 /// The verdict on the axiom once more.
