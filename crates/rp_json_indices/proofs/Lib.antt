@@ -1,0 +1,11 @@
+pub mod CycleReads
+pub mod GroupReads
+pub mod HomotheticLevelReads
+pub mod KeptReads
+pub mod LevelsReads
+pub mod MeasureReads
+pub mod PlacesReads
+pub mod PumpReads
+pub mod QuasilinearLevelReads
+pub mod StepsReads
+pub mod ViolationsReads

@@ -1,0 +1,12 @@
+use Rattle.std.proofs.Common.{subst}
+use Rattle.serde_json.specs.View.{view}
+use Rattle.rp_json_entries.specs.Reading.{IsFound}
+use Rattle.rp_json_indices.proofs.PumpReads.{Fits_made, found_none, found_one, value_made}
+use Rattle.rp_json_indices.proofs.pump.read_pump.Goals as goal
+
+pub returns-in-Some : goal.returns-in-Some
+returns-in-Some c =
+    rw c.pump.ensures (found_one (view c.args.value.now) _ (subst (IsFound value_made Fits_made (view c.args.value.now)) c.in-Some.is c.in_ok-entries.ensures))
+
+pub returns-in-None : goal.returns-in-None
+returns-in-None c = found_none (view c.args.value.now) (subst (IsFound value_made Fits_made (view c.args.value.now)) c.in-None.is c.in_ok-entries.ensures)

@@ -1,0 +1,12 @@
+pub mod CycleValue
+pub mod GroupValue
+pub mod HomotheticLevelValue
+pub mod KeptValue
+pub mod LevelsValue
+pub mod Limits
+pub mod MeasureValue
+pub mod PlacesValue
+pub mod PumpValue
+pub mod QuasilinearLevelValue
+pub mod StepsValue
+pub mod ViolationsValue
