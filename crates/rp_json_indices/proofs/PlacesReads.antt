@@ -139,7 +139,7 @@ place_fits s t fits = either (place_tells s t)
     either (inl (a, b)) = omega (arith, b)
     either (inr (a, b)) = omega (arith, b, fits)
 
-numbers_fit : (s : ℕ) (ys : List ℕ) → FitObservations ys → All FitsCount (place_numbers s ys)
+pub numbers_fit : (s : ℕ) (ys : List ℕ) → FitObservations ys → All FitsCount (place_numbers s ys)
 numbers_fit s [] h = all_none FitsCount
 numbers_fit s (y ∷ ys) h =
     all_more FitsCount (place_number s y) (place_numbers (s + 1) ys) (place_fits s y (all_first FitsObservation y ys h)) (numbers_fit (s + 1) ys (all_rest FitsObservation y ys h))

@@ -1,0 +1,5 @@
+pub mod FitItemReads
+pub mod ItemListLemmas
+pub mod NoFloats
+pub mod ReadsBack
+pub mod TopLemmas

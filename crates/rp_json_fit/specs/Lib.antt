@@ -1,0 +1,4 @@
+pub mod FitDenoted
+pub mod FitLimits
+pub mod FitValue
+pub mod InnerFitItems
