@@ -1,0 +1,4 @@
+pub mod CyclesText
+pub mod KeptText
+pub mod LevelWalksText
+pub mod ViolationsText

@@ -1,0 +1,14 @@
+//! The report that a certificate on goodness of fit is printed as.
+#![tactic(auto)]
+
+mod cycles;
+mod efficiency;
+mod kept;
+mod level_walks;
+mod violations;
+
+pub use cycles::push_cycles;
+pub use efficiency::push_efficiency;
+pub use kept::push_kept;
+pub use level_walks::{push_homothetic_level, push_pump_ratio, push_quasilinear_level};
+pub use violations::push_violations;
