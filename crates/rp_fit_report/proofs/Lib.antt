@@ -1,1 +1,2 @@
+pub mod LevelFacts
 pub mod Lines

@@ -18,3 +18,11 @@ three_texts old a b c = simp append_assoc
 -- five texts, one after another
 pub five_texts : (old a b c d e : List ℕ) → ((((old ++ a) ++ b) ++ c) ++ d) ++ e ≡ old ++ (a ++ b ++ c ++ d ++ e)
 five_texts old a b c d e = simp append_assoc
+
+-- two numbers with their words, and a line of what is left
+pub then_the_rest : (old w1 n1 w2 n2 last : List ℕ) → ((((old ++ w1) ++ n1) ++ w2) ++ n2) ++ line_of last ≡ old ++ line_of (w1 ++ n1 ++ w2 ++ n2 ++ last)
+then_the_rest old w1 n1 w2 n2 last = simp append_assoc
+
+-- four texts, one after another
+pub four_texts : (old a b c d : List ℕ) → (((old ++ a) ++ b) ++ c) ++ d ≡ old ++ (a ++ b ++ c ++ d)
+four_texts old a b c d = simp append_assoc

@@ -5,10 +5,12 @@ mod cycles;
 mod efficiency;
 mod kept;
 mod level_walks;
+mod levels;
 mod violations;
 
 pub use cycles::push_cycles;
 pub use efficiency::push_efficiency;
 pub use kept::push_kept;
 pub use level_walks::{push_homothetic_level, push_pump_ratio, push_quasilinear_level};
+pub use levels::push_levels;
 pub use violations::push_violations;
