@@ -1,2 +1,1 @@
-pub mod LevelFacts
 pub mod Lines

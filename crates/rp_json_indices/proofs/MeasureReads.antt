@@ -1,5 +1,5 @@
 -- What is read of the measure of levels (this program's own format).
-use Rattle.std.proofs.Common.{◌≡◌, ℕ, ◌∷◌, Some, None, refl, sym, ap, ◌∙◌, arith, codes}
+use Rattle.std.proofs.Common.{◌≡◌, ℕ, ◌∷◌, Some, None, refl, sym, ◌∙◌, arith, codes}
 use Rattle.std.specs.Prelude.{⊤}
 use Rattle.serde_json.specs.Data.{Data, string}
 use Rattle.rp_fit.specs.declared.levels.Lack.{Lack}

@@ -1,4 +1,4 @@
-use Rattle.std.proofs.Common.{rules, map, ap, ◌∙◌, sym, ◌∷◌, ◌++◌, [], slice_index, ◌≡◌}
+use Rattle.std.proofs.Common.{rules, map, ap, ◌∙◌, ◌∷◌, ◌++◌, [], slice_index, ◌≡◌}
 use Rattle.std.proofs.lemmas.List.{map-append, take_all}
 use Rattle.serde_json.specs.Data.{array}
 use Rattle.serde_json.specs.View.{view, items_of}

@@ -1,4 +1,4 @@
-use Rattle.std.proofs.Common.{rules, subst, arith}
+use Rattle.std.proofs.Common.{rules, subst}
 use Rattle.std.proofs.lemmas.List.{take_all}
 use Rattle.rp_json_entries.specs.Reading.{FitsObservation, IsFound}
 use Rattle.rp_json_indices.specs.PlacesValue.{place_number}
