@@ -6,8 +6,6 @@ use Rattle.rp_evidence.specs.declared.garp.Garp.TheVariants.{Ranks, Cycle}
 use Rattle.rp_fit.specs.declared.item.FitItem.{FitItem}
 use Rattle.rp_fit.specs.declared.item.FitItem.TheVariants.{Violations as ViolationsItem, Efficiency as EfficiencyItem, Kept as KeptItem, Levels as LevelsItem, Steps as StepsItem, Pump as PumpItem, QuasilinearLevel as QuasilinearLevelItem, HomotheticLevel as HomotheticLevelItem}
 use Rattle.rp_fit.specs.declared.kept.Group.{Group}
-use Rattle.rp_fit.specs.declared.kept.GroupKind.{GroupKind}
-use Rattle.rp_fit.specs.declared.kept.GroupKind.TheVariants.{Pairs, Cycle as Violation}
 use Rattle.rp_fit.specs.declared.kept.KeptPart.{KeptPart}
 use Rattle.rp_fit.specs.declared.levels.Lack.{Lack}
 use Rattle.rp_fit.specs.declared.levels.Lack.TheVariants.{Mean, Squares}
@@ -16,7 +14,7 @@ use Rattle.rp_fit.specs.declared.steps.StepsPart.{StepsPart}
 use Rattle.rp_fit.specs.declared.weighted.WeightedWalk.{WeightedWalk}
 use Rattle.serde_json.specs.Data.{Data, Members}
 use Rattle.serde_json.specs.Written.{has_float, members_have_float}
-use Rattle.rp_json_entries.specs.Values.{count_value, counts_value, list_value, natural_value, observation_value, observations_value, signed_value}
+use Rattle.rp_json_entries.specs.Values.{count_value, list_value, natural_value, observation_value, observations_value, signed_value}
 use Rattle.rp_json_tests.specs.EfficiencyValue.{at_members, below_members, efficiency_value}
 use Rattle.rp_json_indices.specs.CycleValue.{cycle_value}
 use Rattle.rp_json_indices.specs.GroupValue.{group_value}

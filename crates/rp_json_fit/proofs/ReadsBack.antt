@@ -1,6 +1,6 @@
 -- The text of a certificate within the limits is UTF-8, and it is read as the certificate's value. Each kind of value
 -- has one lemma that says both with its depth (`ReadsBack`), from numbers over entries and items up to the certificate.
-use Rattle.std.proofs.Common.{◌≡◌, map, ℕ, suc, ◌+◌, ◌<◌, ◌^◌, ℤ, pos, negsuc, Bool, true, false, List, [], ◌∷◌, All, Some, if◌then◌else◌, ◌==◌, IsUtf8, refl, arith, codes}
+use Rattle.std.proofs.Common.{◌≡◌, ℕ, suc, ◌+◌, ℤ, pos, negsuc, Bool, true, false, List, [], ◌∷◌, All, Some, if◌then◌else◌, ◌==◌, IsUtf8, refl, arith, codes}
 use Rattle.std.specs.Fmt.{decimal, signed_decimal}
 use Rattle.std.proofs.lemmas.Fmt.{IsAscii-decimal_wide}
 use Rattle.std.proofs.lemmas.Str.{IsUtf8-append, IsUtf8-from_ascii}
@@ -22,7 +22,7 @@ use Rattle.serde_json.specs.Data.{object, member}
 use Rattle.serde_json.specs.Read.{read}
 use Rattle.rp_json_entries.specs.Values.{count_value, counts_value, fraction_value, list_value, natural_value, naturals_value, observation_value, observations_value, signed_value, sums_value}
 use Rattle.rp_json_entries.specs.Reading.{FitObservations, FitsCount, FitsLong, FitsObservation}
-use Rattle.rp_json_tests.specs.EfficiencyValue.{at_members, below_members, efficiency_value}
+use Rattle.rp_json_tests.specs.EfficiencyValue.{at_members, below_members}
 use Rattle.rp_json_tests.specs.Limits.{FitsEfficiency, FitsGarp}
 use Rattle.rp_json_indices.specs.CycleValue.{cycle_value}
 use Rattle.rp_json_indices.specs.GroupValue.{group_value}

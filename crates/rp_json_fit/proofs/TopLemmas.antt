@@ -1,5 +1,5 @@
 -- The top of a certificate: its members by their names, and its version.
-use Rattle.std.proofs.Common.{◌≡◌, ◌≢◌, ℕ, Bool, List, [], ◌∷◌, length, Option, Some, None, Result, Ok, Err, IfOk, refl, sym, ap, subst, ◌∙◌, arith, codes}
+use Rattle.std.proofs.Common.{◌≡◌, ◌≢◌, ℕ, Bool, List, [], ◌∷◌, Option, Some, None, Result, IfOk, refl, sym, ap, subst, ◌∙◌, arith, codes}
 use Rattle.serde_json.specs.Data.{Data, Items, Members, array, member, no_items, no_members, number, object, string, unsigned}
 use Rattle.serde_json.specs.Find.{as_object}
 use Rattle.serde_json.specs.View.{items_of}
