@@ -1,0 +1,9 @@
+pub mod AskedInTurn
+pub mod Calls
+pub mod Contents
+pub mod Endings
+pub mod Gains
+pub mod InnerCauses
+pub mod Lines
+pub mod Meaning
+pub mod Turns
