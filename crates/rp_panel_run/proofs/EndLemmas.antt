@@ -14,6 +14,7 @@ use Rattle.rp_outside.specs.Faults.{HasRisen}
 use Rattle.rp_panel.specs.PanelText.{unnamed_row}
 use Rattle.rp_rows.specs.RowText.{header_fields, line_of_row, panel_writer}
 use Rattle.rp_panel_run.specs.Endings.{AnswersWith, Contents, Files, IsAccepted, IsRefusal, IsRefused, IsTextBy, IsTextOf, IsUnread, NoneRose, RefusesWith}
+use Rattle.rp_panel_run.specs.Laws.{few_new}
 use Rattle.rp_panel_run.specs.Questions.{Asking, new_files}
 use Rattle.rp_panel_run.specs.Told.{file_line, left_out_lines, long_fault_text}
 use Rattle.rp_panel_run.specs.declared.status.Status.{Status}
@@ -24,11 +25,6 @@ accepted_refused a files line accepted (held, contents, inl (inl long)) = omega 
 accepted_refused a files line accepted (held, contents, inl (inr fault)) =
     let is = (accepted held contents).long.denoted in let refused = fault.denoted in cc
 accepted_refused a files line accepted (held, contents, inr new) = omega (arith, (accepted held contents).new new.asked, new.many)
-
--- new prices at which bounds are told have few enough bytes
-pub few_new : (bounds : Option BoundsAsked) (a : Asking) (new : List ℕ) (panel : Panel) (text : List ℕ) → IsTextBy bounds a new panel text → bounds ≢ None → length new ≤ MOST_BYTES
-few_new None a new panel text is some = absurd (some refl)
-few_new (Some asked) a new panel text is some = is.few
 
 pub text_refused : (a : Asking) (held : Contents) (text told line : List ℕ) → IsTextOf a held text told → IsRefusal a held line → ⊥
 text_refused a held text told line is (inl (inl long)) = omega (arith, is.few, long.many)

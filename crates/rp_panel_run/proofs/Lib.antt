@@ -4,3 +4,4 @@ pub mod TurnLemmas
 pub mod EndLemmas
 pub mod SameRows
 pub mod SameBounds
+pub mod FrontLemmas

@@ -1,6 +1,9 @@
 -- Why a question about a long file has no table, as the functions of this crate hand it on.
-use Rattle.std.specs.Prelude.{◌≡◌, ◌≢◌, ◌≤◌, ◌⊎◌, ⊤, ℕ, ◌+◌, Bool, true, false, List, Option, None, Err, codes}
+use Rattle.std.specs.Prelude.{◌≡◌, ◌≢◌, ◌≤◌, ◌⊎◌, ⊤, ℕ, ◌+◌, Bool, true, false, List, Option, None, Err, codes, length}
 use Rattle.rp_bound_rows.specs.declared.asked.BoundsAsked.{BoundsAsked}
+use Rattle.rp_front.specs.AskedInTurn.{GrowsByFirst}
+use Rattle.rp_front.specs.declared.answer.Cause.{Cause}
+use Rattle.rp_front.specs.declared.answer.Cause.TheVariants as cause
 use Rattle.rp_limits.specs.declared.run.TheConstants.{MOST_BYTES}
 use Rattle.rp_outside.specs.Asked.{KeepsReads, Reads}
 use Rattle.rp_outside.specs.Known.{AreAll, AreMoreThan}
@@ -9,36 +12,28 @@ use Rattle.rp_long.specs.declared.fault.LongFault.{LongFault}
 use Rattle.rp_long.specs.declared.fault.LongFault.TheVariants as long_fault
 use Rattle.rp_sheet.specs.declared.fault.TableFault.{TableFault}
 use Rattle.rp_sheet.specs.declared.fault.TableFault.TheVariants as table_fault
-use Rattle.rp_panel_run.specs.Endings.{Files, HasFault, IsAnswerFor, IsPanelFile, IsTextOf, IsUnread, RefusesWith}
+use Rattle.rp_panel_run.specs.Endings.{HasFault, IsAnswerFor, IsPanelFile, IsTextOf}
 use Rattle.rp_panel_run.specs.Questions.{Asking, id_name, new_files}
-use Rattle.rp_panel_run.specs.Turns.{GrowsInOrder, calls_of_new}
-use Rattle.rp_panel_run.specs.Told.{file_line, long_fault_text, unread_line}
-use Rattle.rp_panel_run.specs.declared.answer.Cause.{Cause}
-use Rattle.rp_panel_run.specs.declared.answer.Cause.TheVariants as cause
-
--- the cause of files whose bytes may not be known, with what their counts of faults were and are
-abbrev pub IsCauseOf : Asking → Files → (List ℕ → ℕ) → (List ℕ → ℕ) → Cause → Type 0
-IsCauseOf a files before after (cause.Read line) = IsUnread a files before after line.items
-IsCauseOf a files before after (cause.Refused line) = RefusesWith a files line.items
-IsCauseOf a files before after cause.NoMemory = ⊤
+use Rattle.rp_panel_run.specs.Turns.{calls_of_new}
+use Rattle.rp_panel_run.specs.Told.{file_line, long_fault_text}
 
 -- why a file of at most so many bytes was not read; `rose` says that its count of faults has risen
 abbrev pub IsLoadCause : List ℕ → ℕ → Option (List ℕ) → Type 0 → Cause → Type 0
-IsLoadCause name limit known rose (cause.Read line) = rose × (line.items ≡ unread_line name)
+IsLoadCause name limit known rose (cause.Read file) = rose × (file.now ≡ name)
 IsLoadCause name limit known rose (cause.Refused line) =
     AreMoreThan limit known × (line.items ≡ file_line name (codes "TooLong"))
 IsLoadCause name limit known rose cause.NoMemory = ⊤
 
 -- why there is no text for a panel: bounds are asked, and the file of new prices was not read
 abbrev pub IsNewCause : Asking → Option (List ℕ) → Type 0 → Cause → Type 0
-IsNewCause a new rose (cause.Read line) = (a.bounds ≢ None) × rose × (line.items ≡ unread_line a.new_prices)
+IsNewCause a new rose (cause.Read file) = (a.bounds ≢ None) × rose × (file.now ≡ a.new_prices)
 IsNewCause a new rose (cause.Refused line) =
     (a.bounds ≢ None) × AreMoreThan MOST_BYTES new × (line.items ≡ file_line a.new_prices (codes "TooLong"))
 IsNewCause a new rose cause.NoMemory = ⊤
 
 -- the cause of these bytes of the long file, beside a file of new prices
 abbrev pub IsFaultCause : Asking → Option (List ℕ) → Type 0 → List ℕ → Cause → Type 0
-IsFaultCause a new rose bytes (cause.Read line) = IsPanelFile a bytes × IsNewCause a new rose (cause.Read line)
+IsFaultCause a new rose bytes (cause.Read file) = IsPanelFile a bytes × IsNewCause a new rose (cause.Read file)
 IsFaultCause a new rose bytes (cause.Refused line) =
     HasFault a bytes line.items ⊎ (IsPanelFile a bytes × IsNewCause a new rose (cause.Refused line))
 IsFaultCause a new rose bytes cause.NoMemory = ⊤
@@ -63,7 +58,7 @@ pub record AsksForNone (before after : ℕ) (old new : Option Reads) : Type 0 wh
 pub record AsksForNew (bounds : Option BoundsAsked) (file : List ℕ) (known : Option (List ℕ)) (before after : ℕ)
     (old new : Option Reads) : Type 0 where
   pub calls : after ≤ before + calls_of_new bounds known
-  pub names : GrowsInOrder old new (new_files bounds file)
+  pub names : GrowsByFirst old new (new_files bounds file) (length (new_files bounds file))
 
 -- these bytes of the long file are refused
 abbrev pub IsFaulty : Asking → List ℕ → Type 0
@@ -77,21 +72,15 @@ pub record IsFaultLine (a : Asking) (records : List (List (List ℕ))) (line : L
 
 -- the cause of these records
 abbrev pub IsFaultOfRecords : Asking → List (List (List ℕ)) → Cause → Type 0
-IsFaultOfRecords a records (cause.Read line) = ⊥
+IsFaultOfRecords a records (cause.Read file) = ⊥
 IsFaultOfRecords a records (cause.Refused line) = IsFaultLine a records line.items
 IsFaultOfRecords a records cause.NoMemory = ⊤
 
 -- a refusal with this text about a file
 abbrev pub IsToldAs : List ℕ → List ℕ → Cause → Type 0
-IsToldAs file text (cause.Read line) = ⊥
+IsToldAs file text (cause.Read name) = ⊥
 IsToldAs file text (cause.Refused line) = line.items ≡ file_line file text
 IsToldAs file text cause.NoMemory = ⊤
-
--- that a file could not be read
-abbrev pub IsToldUnread : List ℕ → Cause → Type 0
-IsToldUnread file (cause.Read line) = line.items ≡ unread_line file
-IsToldUnread file (cause.Refused line) = ⊥
-IsToldUnread file cause.NoMemory = ⊤
 
 -- whether a fault is want of memory, of which no file is the cause
 abbrev pub is_table_memory : TableFault → Bool

@@ -1,10 +1,9 @@
 -- What is told on standard error, and what known bytes gain from a text that a sink may fail to take whole (this
 -- program's own texts).
-use Rattle.std.specs.Prelude.{ℕ, ◌⊎◌, Bool, true, false, List, [], ◌∷◌, ◌++◌, codes, Option}
+use Rattle.std.specs.Prelude.{ℕ, ◌⊎◌, List, [], ◌∷◌, ◌++◌, codes, Option}
 use Rattle.std.specs.Fmt.{decimal}
 use Rattle.std.specs.List.{flat_map}
 use Rattle.std.specs.Option.{option_map_or}
-use Rattle.rp_guide.specs.Hints.{hint_line}
 use Rattle.rp_outside.specs.Faults.{HasRisen}
 use Rattle.rp_outside.specs.Known.{Grows, GrowsByPrefix}
 use Rattle.rp_long.specs.declared.fault.LongFault.{LongFault}
@@ -56,18 +55,6 @@ write_line = codes "rp-panel: write failed" ++ 10 ∷ []
 abbrev pub memory_line : List ℕ
 memory_line = codes "rp-panel: out of memory" ++ 10 ∷ []
 
--- the line of an error, with the line of the hint for its code where hints are wanted
-abbrev pub hinted : Bool → List ℕ → List ℕ → List ℕ
-hinted false code line = line
-hinted true code line = line ++ hint_line code
-
 -- known bytes grow by all of the text, or by some of it from its front where the count of faults has risen
 abbrev pub Gains : Option (List ℕ) → Option (List ℕ) → ℕ → ℕ → List ℕ → Type 0
 Gains old new before after text = Grows old new text ⊎ (GrowsByPrefix old new text × HasRisen before after)
-
--- the same of one text and then another, each as far as it was taken
-pub record GainsBoth (old new : Option (List ℕ)) (before after : ℕ) (first second : List ℕ) : Type 0 where
-  pub between : Option (List ℕ)
-  pub count : ℕ
-  pub gains_first : Gains old between before count first
-  pub gains_second : Gains between new count after second

@@ -1,6 +1,11 @@
 //! The table of a long file, or its bounds at the prices of a second file, or why there is none.
 ghost use Rattle.std.specs.Prelude.{◌≡◌, ◌≢◌, ◌<◌, ◌≤◌, ◌+◌, ◌^◌, IfErr, IfOk, None, Ok, length};
 ghost use Rattle.rp_bounds_panel.specs.BoundsText.{IsBoundsText};
+ghost use Rattle.rp_front.specs.AskedInTurn.{AreAskedInTurn};
+ghost use Rattle.rp_front.specs.Contents.{AnswersWith};
+ghost use Rattle.rp_front.specs.Endings.{Rose};
+ghost use Rattle.rp_front.specs.InnerCauses.{IsCause};
+ghost use Rattle.rp_front.specs.Turns.{AreReadInTurn, AsksForFirst};
 ghost use Rattle.rp_limits.specs.declared.long.TheConstants.{BYTES};
 ghost use Rattle.rp_limits.specs.declared.run.TheConstants.{MOST_BYTES};
 ghost use Rattle.rp_long.specs.Panels.{denoted_panel};
@@ -9,20 +14,21 @@ ghost use Rattle.rp_outside.specs.Faults.{EachStays, HasRisen, NoneFalls};
 ghost use Rattle.rp_outside.specs.Known.{AreAll};
 ghost use Rattle.rp_outside.specs.Reads.{calls_through};
 ghost use Rattle.rp_panel.specs.PanelText.{IsPanelText};
-ghost use Rattle.rp_panel_run.specs.Endings.{AnswersWith, AreBoundsAt, IsAnswerFor, IsTextBy};
-ghost use Rattle.rp_panel_run.specs.InnerCauses.{AsksForNew, AsksForNone, IsAnswerBeside, IsCauseOf};
+ghost use Rattle.rp_panel_run.specs.Endings.{AreBoundsAt, IsAnswerFor, IsTextBy};
+ghost use Rattle.rp_panel_run.specs.Front.{panels};
+ghost use Rattle.rp_panel_run.specs.InnerCauses.{AsksForNew, AsksForNone, IsAnswerBeside};
 ghost use Rattle.rp_panel_run.specs.InnerCauses.{IsFaultCause, IsFaultOfRecords, IsFaulty};
 ghost use Rattle.rp_panel_run.specs.InnerCauses.{IsLoadCause, IsNewCause, IsTextBeside, IsToldAs};
-ghost use Rattle.rp_panel_run.specs.InnerCauses.{IsToldUnread, is_memory};
+ghost use Rattle.rp_panel_run.specs.InnerCauses.{is_memory};
 ghost use Rattle.rp_panel_run.specs.Questions.{demand_by, given_by, id_name, more_asked, welfare_by};
 ghost use Rattle.rp_panel_run.specs.Told as Told;
-ghost use Rattle.rp_panel_run.specs.Turns.{AreAskedInTurn, AreReadInTurn};
 
 use crate::question::Question;
-use crate::telling::{left_out_lines, line_about, long_fault_text, unread_line};
+use crate::telling::{left_out_lines, line_about, long_fault_text};
 use rp_bound_rows::{AsStated as BoundsAsStated, BoundSearch, BoundsAsked};
 use rp_bound_rows_wide::Filled as BoundsFilled;
 use rp_bounds_panel::write_bounds;
+use rp_front::{Answer, Cause, Status};
 use rp_limits::long::BYTES;
 use rp_limits::run::MOST_BYTES;
 use rp_long::{Households, LongFault, read_long_records, read_panel};
@@ -34,48 +40,23 @@ use rp_rows_wide::Filled;
 use rp_sheet::{Records, TableFault};
 use std::alloc::Global;
 
-/// The table of a long file, and what is told of it before.
-#[derive(Drop)]
-pub(crate) struct Answer {
-    pub(crate) text: Vec<u8>,
-    pub(crate) told: Vec<u8>,
-}
-
-/// Why there is no table.
-#[derive(Drop)]
-pub(crate) enum Cause {
-    /// The line that tells that the file could not be read.
-    Read(Vec<u8>),
-    /// The line that tells what is refused.
-    Refused(Vec<u8>),
-    NoMemory,
-}
-
-impl From<NoMemory> for Cause {
-    ghost use Rattle.rp_panel_run.specs.declared.answer.Cause.TheVariants as cause;
-
-    ghost from_gives = { λ _ c. c ≡ cause.NoMemory };
-
-    fn from(_error: NoMemory) -> Cause {
-        Cause::NoMemory
-    }
-}
-
 /// The answer for the files that a question names. The long file is read first; that of new prices is read where bounds
 /// are asked and the long file is accepted.
-pub(crate) fn answer_files<D: Desk>(
+pub(crate) fn answer_files<'a, D: Desk>(
     alloc: Global,
     desk: &mut D,
-    question: &Question<'_>,
-) -> Result<Answer, Cause>
-    ensures written { IfOk result (λ answer. AnswersWith question.now (D.bytes desk.old)
-        answer.text.items answer.told.items) }
-    ensures caused { IfErr result (IsCauseOf question.now (D.bytes desk.old)
-        (D.faults desk.old) (D.faults desk.new)) }
-    ensures turns { AreReadInTurn (D.bytes desk.old) (D.calls desk.old) (D.calls desk.new)
-        question.now }
-    ensures names { AreAskedInTurn (D.bytes desk.old) (D.asked desk.old) (D.asked desk.new)
-        question.now }
+    question: &'a Question<'_>,
+) -> Result<Answer, Cause<'a>>
+    ensures written { IfOk result (λ answer. AnswersWith panels (D.bytes desk.old)
+        question.now answer.status answer.text.items answer.told.items) }
+    ensures caused { IfErr result (IsCause panels (D.bytes desk.old)
+        (Rose (D.faults desk.old) (D.faults desk.new))
+        (AsksForFirst panels (D.bytes desk.old) (D.calls desk.old) (D.calls desk.new)
+        question.now) question.now) }
+    ensures turns { AreReadInTurn panels (D.bytes desk.old)
+        (D.calls desk.old) (D.calls desk.new) question.now }
+    ensures names { AreAskedInTurn panels (D.bytes desk.old)
+        (D.asked desk.old) (D.asked desk.new) question.now }
     ensures bytes_stay { EachStays (D.bytes desk.old) (D.bytes desk.new) }
     ensures never_falls { NoneFalls (D.faults desk.old) (D.faults desk.new) }
 {
@@ -86,7 +67,12 @@ pub(crate) fn answer_files<D: Desk>(
 }
 
 /// All bytes of a file, of which there are at most so many.
-fn load_file<D: Desk>(alloc: Global, desk: &mut D, name: &str, limit: u64) -> Result<Vec<u8>, Cause>
+fn load_file<'a, D: Desk>(
+    alloc: Global,
+    desk: &mut D,
+    name: &'a str,
+    limit: u64,
+) -> Result<Vec<u8>, Cause<'a>>
     requires { limit < 2 ^ 32 }
     ensures whole { IfOk result (λ bytes. AreAll (D.bytes desk.old name.now) bytes.items) }
     ensures few { IfOk result (λ bytes. length bytes.items ≤ limit) }
@@ -102,31 +88,21 @@ fn load_file<D: Desk>(alloc: Global, desk: &mut D, name: &str, limit: u64) -> Re
 {
     match load(alloc, desk, name, limit) {
         Ok(bytes) => Ok(bytes),
-        Err(LoadFault::Read) => Err(unread(alloc, name)),
+        Err(LoadFault::Read) => Err(Cause::Read(name)),
         Err(LoadFault::TooLong) => Err(refused(alloc, name, b"TooLong")),
         Err(LoadFault::NoMemory) => Err(Cause::NoMemory),
     }
 }
 
-/// The cause where a file could not be read.
-fn unread(alloc: Global, name: &str) -> Cause
-    ensures { IsToldUnread name.now result }
-{
-    match unread_line(alloc, name) {
-        Ok(line) => Cause::Read(line),
-        Err(_) => Cause::NoMemory,
-    }
-}
-
 /// The answer for these bytes of the long file. Where they are refused, no other file is read.
-fn answer_long<D: Desk>(
+fn answer_long<'a, D: Desk>(
     alloc: Global,
     desk: &mut D,
-    question: &Question<'_>,
+    question: &'a Question<'_>,
     long: &[u8],
-) -> Result<Answer, Cause>
+) -> Result<Answer, Cause<'a>>
     requires { length long.now ≤ BYTES }
-    ensures written { IfOk result (λ answer. IsTextBeside question.now
+    ensures written { IfOk result (λ answer. (answer.status ≡ Status.Done) × IsTextBeside question.now
         (D.bytes desk.old question.now.new_prices)
         long.now answer.text.items answer.told.items) }
     ensures caused { IfErr result (IsFaultCause question.now
@@ -149,11 +125,11 @@ fn answer_long<D: Desk>(
 }
 
 /// The panel of these records.
-fn open_panel<'a>(
+fn open_panel<'a, 'r>(
     alloc: Global,
-    question: &Question<'_>,
-    records: &'a Records,
-) -> Result<Households<'a>, Cause>
+    question: &'a Question<'_>,
+    records: &'r Records,
+) -> Result<Households<'r>, Cause<'a>>
     ensures denoted { IfOk result (λ panel. denoted_panel (id_name question.now) question.now.kept
         records.now ≡ Ok panel) }
     ensures refused { IfErr result (IsFaultOfRecords question.now records.now) }
@@ -166,13 +142,13 @@ fn open_panel<'a>(
 }
 
 /// The answer for this panel, beside the file of new prices where bounds are asked.
-fn answer_beside<D: Desk>(
+fn answer_beside<'a, D: Desk>(
     alloc: Global,
     desk: &mut D,
-    question: &Question<'_>,
+    question: &'a Question<'_>,
     panel: &Households<'_>,
-) -> Result<Answer, Cause>
-    ensures written { IfOk result (λ answer. IsAnswerBeside question.now
+) -> Result<Answer, Cause<'a>>
+    ensures written { IfOk result (λ answer. (answer.status ≡ Status.Done) × IsAnswerBeside question.now
         (D.bytes desk.old question.now.new_prices) panel.now answer.text.items answer.told.items) }
     ensures caused { IfErr result (IsNewCause question.now
         (D.bytes desk.old question.now.new_prices)
@@ -194,7 +170,11 @@ fn answer_beside<D: Desk>(
 }
 
 /// The bytes of the file of new prices, or none where no bounds are asked.
-fn load_new<D: Desk>(alloc: Global, desk: &mut D, question: &Question<'_>) -> Result<Vec<u8>, Cause>
+fn load_new<'a, D: Desk>(
+    alloc: Global,
+    desk: &mut D,
+    question: &'a Question<'_>,
+) -> Result<Vec<u8>, Cause<'a>>
     ensures whole { IfOk result (λ new. question.now.bounds ≢ None
         → AreAll (D.bytes desk.old question.now.new_prices) new.items) }
     ensures few { IfOk result (λ new. length new.items ≤ MOST_BYTES) }
@@ -222,13 +202,18 @@ fn answer_panel(
     panel: &Households<'_>,
 ) -> Result<Answer, NoMemory>
     requires { length new.now ≤ MOST_BYTES }
-    ensures { IfOk result (λ answer. IsAnswerFor question.now new.now panel.now
+    ensures { IfOk result (λ answer. (answer.status ≡ Status.Done)
+        × IsAnswerFor question.now new.now panel.now
         answer.text.items answer.told.items) }
 {
     let columns = panel.left_out(alloc)?;
     let told = left_out_lines(alloc, columns.as_slice())?;
     let text = panel_text(alloc, question, new, panel)?;
-    Ok(Answer { text, told })
+    Ok(Answer {
+        status: Status::Done,
+        text,
+        told,
+    })
 }
 
 /// The text for this panel: that of its table, or of the bounds that are asked.
@@ -331,7 +316,7 @@ fn is_memory(fault: LongFault) -> bool
 }
 
 /// The cause that a fault of a file is.
-fn refused_for(alloc: Global, name: &str, fault: LongFault) -> Cause
+fn refused_for<'a>(alloc: Global, name: &str, fault: LongFault) -> Cause<'a>
     ensures { IsToldAs name.now (Told.long_fault_text fault) result }
 {
     match long_fault_text(alloc, fault) {
@@ -341,7 +326,7 @@ fn refused_for(alloc: Global, name: &str, fault: LongFault) -> Cause
 }
 
 /// The cause of a refusal of a file with that text.
-fn refused(alloc: Global, name: &str, text: &[u8]) -> Cause
+fn refused<'a>(alloc: Global, name: &str, text: &[u8]) -> Cause<'a>
     ensures { IsToldAs name.now text.now result }
 {
     match line_about(alloc, name, text) {

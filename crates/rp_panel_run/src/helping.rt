@@ -1,6 +1,8 @@
 //! A call of the program `rp-panel`: its help page and its version, and else a table, with a hint after each error.
 ghost use Rattle.std.specs.Prelude.{◌≡◌, ◌≢◌, ◌⊎◌, ◌≤◌, ℕ, List, None, Some};
 ghost use Rattle.std.specs.Prelude.{codes, map, string_bytes, true};
+ghost use Rattle.rp_front.specs.Gains.{GainsBoth};
+ghost use Rattle.rp_front.specs.Lines.{hinted};
 ghost use Rattle.rp_guide.specs.Codes.{code_of_line};
 ghost use Rattle.rp_guide.specs.Pages.{panel_page};
 ghost use Rattle.rp_outside.specs.Faults.{EachStays, HasRisen, NoneFalls};
@@ -8,8 +10,7 @@ ghost use Rattle.rp_outside.specs.Known.{Grows, GrowsByPrefix, Stays};
 ghost use Rattle.rp_panel_run.specs.Endings.{AnswersWith, GivesPage, IsAccepted, IsRefused, IsUnread};
 ghost use Rattle.rp_panel_run.specs.Endings.{NoneRose, RefusesWith};
 ghost use Rattle.rp_panel_run.specs.Questions.{Asking, asking_in};
-ghost use Rattle.rp_panel_run.specs.Told.{Gains, GainsBoth, hinted, memory_line, usage_line};
-ghost use Rattle.rp_panel_run.specs.Told.{write_line};
+ghost use Rattle.rp_panel_run.specs.Told.{Gains, memory_line, usage_line, write_line};
 ghost use Rattle.rp_panel_run.specs.Turns.{AsksByName, AsksInTurn};
 
 use crate::Status;

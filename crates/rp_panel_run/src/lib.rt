@@ -5,6 +5,7 @@ mod answer;
 mod helping;
 mod laws;
 mod number;
+mod program;
 mod question;
 mod running;
 mod status;

@@ -1,25 +1,26 @@
 //! A call of the program: its words, the table of the files that they name, and what is written and told.
 ghost use Rattle.std.specs.Prelude.{◌≡◌, ◌≢◌, ◌⊎◌, ◌≤◌, ℕ, List, None, Some};
 ghost use Rattle.std.specs.Prelude.{codes, map, string_bytes};
+ghost use Rattle.rp_front.specs.Gains.{GainsBoth};
+ghost use Rattle.rp_front.specs.Lines.{hinted};
 ghost use Rattle.rp_guide.specs.Codes.{code_of_line};
 ghost use Rattle.rp_outside.specs.Faults.{EachStays, HasRisen, NoneFalls};
 ghost use Rattle.rp_outside.specs.Known.{Grows, GrowsByPrefix, Stays};
 ghost use Rattle.rp_panel_run.specs.Endings.{AnswersWith, IsAccepted, IsRefused, IsUnread};
 ghost use Rattle.rp_panel_run.specs.Endings.{NoneRose, RefusesWith};
+ghost use Rattle.rp_panel_run.specs.Front.{front_status};
 ghost use Rattle.rp_panel_run.specs.Questions.{Asking, asking_in};
-ghost use Rattle.rp_panel_run.specs.Told.{Gains, GainsBoth, hinted, memory_line, usage_line};
-ghost use Rattle.rp_panel_run.specs.Told.{write_line};
+ghost use Rattle.rp_panel_run.specs.Told.{Gains, memory_line, usage_line, write_line};
 ghost use Rattle.rp_panel_run.specs.Turns.{AsksByName, AsksInTurn};
 
 use crate::Status;
-use crate::answer::{Answer, Cause, answer_files};
-use crate::telling::{tell, tell_error, tell_refusal};
-use crate::words::read_words;
-use rp_outside::{Desk, Sink, pour};
+use crate::program::Panels;
+use rp_front::{Status as FrontStatus, run_program};
+use rp_outside::{Desk, Sink};
 use std::alloc::Global;
 
 /// What is told where the words are none that the program takes.
-const USAGE: &[u8] =
+pub(crate) const USAGE: &[u8] =
     b"usage: rp-panel LONG [--id NAME] [--keep NAME].. [--pump] [--power DRAWS SEED] [--wide]\n\
     \x20      rp-panel LONG [--id NAME] [--keep NAME].. (--demand | --welfare) NEW [--wide]\n";
 
@@ -175,53 +176,21 @@ pub(crate) fn run_panel_by<D: Desk, O: Sink, E: Sink>(
     ensures out_counts { O.faults out.old ≤ O.faults out.new }
     ensures err_counts { E.faults err.old ≤ E.faults err.new }
 {
-    let Ok(asked) = read_words(alloc, words.as_slice()) else {
-        tell_error(err, hints, b"rp-panel: out of memory\n", b"NoMemory");
-        return Status::NoMemory;
-    };
-    let Some(question) = asked else {
-        tell_error(err, hints, USAGE, b"Usage");
-        return Status::Usage;
-    };
-    match answer_files(alloc, desk, &question) {
-        Ok(answer) => finish(&answer, hints, out, err),
-        Err(Cause::Read(line)) => {
-            tell_error(err, hints, line.as_slice(), b"ReadFault");
-            Status::ReadFault
-        }
-        Err(Cause::Refused(line)) => {
-            tell_refusal(err, hints, line.as_slice());
-            Status::Refused
-        }
-        Err(Cause::NoMemory) => {
-            tell_error(err, hints, b"rp-panel: out of memory\n", b"NoMemory");
-            Status::NoMemory
-        }
-    }
+    own_status(run_program::<Panels, D, O, E>(alloc, hints, words, desk, out, err))
 }
 
-/// Tells what is told of a table and writes it whole, or tells that it could not be written.
-fn finish<O: Sink, E: Sink>(answer: &Answer, hints: bool, out: &mut O, err: &mut E) -> Status
-    ensures either { (result ≡ Status.Done) ⊎ (result ≡ Status.WriteFault) }
-    ensures whole { result ≡ Status.Done
-        → Grows (O.written out.old) (O.written out.new) answer.now.text.items
-        × Gains (E.written err.old) (E.written err.new)
-        (E.faults err.old) (E.faults err.new) answer.now.told.items }
-    ensures part { result ≡ Status.WriteFault
-        → GrowsByPrefix (O.written out.old) (O.written out.new) answer.now.text.items
-        × HasRisen (O.faults out.old) (O.faults out.new)
-        × GainsBoth (E.written err.old) (E.written err.new)
-        (E.faults err.old) (E.faults err.new)
-        answer.now.told.items (hinted hints (codes "WriteFault") write_line) }
-    ensures out_counts { O.faults out.old ≤ O.faults out.new }
-    ensures err_counts { E.faults err.old ≤ E.faults err.new }
+/// The status of a call, which never rejects.
+fn own_status(status: FrontStatus) -> Status
+    requires { status ≢ FrontStatus.Rejected }
+    ensures { front_status result ≡ status }
 {
-    tell(err, answer.told.as_slice());
-    match pour(out, answer.text.as_slice()) {
-        Ok(()) => Status::Done,
-        Err(_) => {
-            tell_error(err, hints, b"rp-panel: write failed\n", b"WriteFault");
-            Status::WriteFault
-        }
+    match status {
+        FrontStatus::Done => Status::Done,
+        FrontStatus::Rejected => unreachable!(),
+        FrontStatus::Usage => Status::Usage,
+        FrontStatus::ReadFault => Status::ReadFault,
+        FrontStatus::Refused => Status::Refused,
+        FrontStatus::WriteFault => Status::WriteFault,
+        FrontStatus::NoMemory => Status::NoMemory,
     }
 }

@@ -1,51 +1,14 @@
 //! What is told on standard error.
-ghost use Rattle.std.specs.Prelude.{◌≡◌, ◌≤◌, [], ◌∷◌, ◌++◌, IfOk, OnOk, map};
-ghost use Rattle.rp_guide.specs.Codes.{code_of_line};
+ghost use Rattle.std.specs.Prelude.{◌≡◌, [], ◌∷◌, ◌++◌, IfOk, OnOk, map};
 ghost use Rattle.rp_panel_run.specs.Told as Told;
-ghost use Rattle.rp_panel_run.specs.Told.{Gains, file_line, left_out_line, long_fault_text, place_text};
-ghost use Rattle.rp_panel_run.specs.Told.{hinted, told_fault};
+ghost use Rattle.rp_panel_run.specs.Told.{file_line, left_out_line, long_fault_text, place_text};
+ghost use Rattle.rp_panel_run.specs.Told.{told_fault};
 
-use rp_guide::{code_of_line, tell_with_hint};
 use rp_long::LongFault;
 use rp_num::NoMemory;
-use rp_outside::{Sink, pour};
 use rp_print::{Number, push_after};
 use rp_rows::Fault;
 use std::alloc::Global;
-
-/// Writes a text, as far as the sink takes it. A failure is told by the sink's count of faults alone.
-pub(crate) fn tell<E: Sink>(err: &mut E, text: &[u8])
-    ensures gains { Gains (E.written err.old) (E.written err.new)
-        (E.faults err.old) (E.faults err.new) text.now }
-    ensures never_falls { E.faults err.old ≤ E.faults err.new }
-{
-    match pour(err, text) {
-        Ok(()) => {}
-        Err(_) => {}
-    }
-}
-
-/// Writes the line of an error, and the line of the hint for its code where hints are wanted.
-pub(crate) fn tell_error<E: Sink>(err: &mut E, hints: bool, line: &[u8], code: &[u8])
-    ensures gains { Gains (E.written err.old) (E.written err.new)
-        (E.faults err.old) (E.faults err.new) (hinted hints code.now line.now) }
-    ensures never_falls { E.faults err.old ≤ E.faults err.new }
-{
-    if hints {
-        tell_with_hint(err, line, code);
-    } else {
-        tell(err, line);
-    }
-}
-
-/// Writes the line that refuses a file, and the line of the hint for its code where hints are wanted.
-pub(crate) fn tell_refusal<E: Sink>(err: &mut E, hints: bool, line: &[u8])
-    ensures gains { Gains (E.written err.old) (E.written err.new) (E.faults err.old)
-        (E.faults err.new) (hinted hints (code_of_line line.now) line.now) }
-    ensures never_falls { E.faults err.old ≤ E.faults err.new }
-{
-    tell_error(err, hints, line, code_of_line(line))
-}
 
 /// The line with a text about a file.
 pub(crate) fn line_about(alloc: Global, file: &str, text: &[u8]) -> Result<Vec<u8>, NoMemory>

@@ -1,55 +1,45 @@
-use Rattle.std.proofs.Common.{◌≡◌, Some, map, string_bytes, sym}
-use Rattle.rp_panel_run.specs.Endings.{IsUnread, RefusesWith}
-use Rattle.rp_panel_run.specs.Questions.{asking_in}
-use Rattle.rp_panel_run.proofs.EndLemmas.{done_unless_risen, never_answered, never_refused, never_unread}
-use Rattle.rp_panel_run.proofs.TurnLemmas.{asked_names, asked_turns, unasked_names, unasked_turns}
+use Rattle.rp_panel_run.proofs.FrontLemmas.{accepted_front, asked_own, cut_own, end_own, memory_own, names_asked, no_rejection, read_own, refusal_own, refused_front, refused_own, silent_own, turns_asked, usage_own, written_own}
 use Rattle.rp_panel_run.proofs.running.run_panel_by.Goals as goal
 
-pub returns-in_default-clause-turns : goal.returns-in_default-clause-turns
-returns-in_default-clause-turns g c = unasked_turns _ _ _
+pub returns-clause-usage : goal.returns-clause-usage
+returns-clause-usage g c = usage_own _ _ _ _ _ _ _ _ _ c.own_status.ensures c.run_program.ensures.words c.run_program.ensures.written c.run_program.ensures.why
 
-pub returns-in_default-clause-names : goal.returns-in_default-clause-names
-returns-in_default-clause-names g c = unasked_names (g.D.Desk.bytes c.args.desk.now) _ _
+pub returns-clause-asked : goal.returns-clause-asked
+returns-clause-asked g c = asked_own _ _ _ _ _ _ _ _ _ c.own_status.ensures c.run_program.ensures.words c.run_program.ensures.written c.run_program.ensures.why
 
-pub returns-in_default-asked-clause-turns : goal.returns-in_default-asked-clause-turns
-returns-in_default-asked-clause-turns g c = unasked_turns _ _ _
+pub returns-clause-written : goal.returns-clause-written
+returns-clause-written g c = written_own _ _ _ _ _ _ _ _ _ c.own_status.ensures c.run_program.ensures.words c.run_program.ensures.written c.run_program.ensures.why
 
-pub returns-in_default-asked-clause-names : goal.returns-in_default-asked-clause-names
-returns-in_default-asked-clause-names g c = unasked_names (g.D.Desk.bytes c.args.desk.now) _ _
+pub returns-clause-cut_short : goal.returns-clause-cut_short
+returns-clause-cut_short g c = cut_own _ _ _ _ _ _ _ _ _ c.own_status.ensures c.run_program.ensures.words c.run_program.ensures.written c.run_program.ensures.why
 
-pub returns-in-Ok-answer_files-clause-complete : goal.returns-in-Ok-answer_files-clause-complete
-returns-in-Ok-answer_files-clause-complete g c = λ a is accepted calm none.
-    done_unless_risen c.finish.result _ _ c.finish.ensures.either (λ cut. (c.finish.ensures.part cut).1) none
+pub returns-clause-silent : goal.returns-clause-silent
+returns-clause-silent g c = silent_own _ _ _ _ _ _ _ _ _ c.own_status.ensures c.run_program.ensures.words c.run_program.ensures.written c.run_program.ensures.why
 
-pub returns-in-Ok-answer_files-clause-refuses : goal.returns-in-Ok-answer_files-clause-refuses
-returns-in-Ok-answer_files-clause-refuses g c = λ a is refused calm.
-    let asked : asking_in (map string_bytes c.args.words.now.items) ≡ Some c.in-Some.question = rw (c.in-Some.is, c.as_slice.ensures.value) at (sym c.in-Ok.ensures) in
-    absurd (never_answered (asking_in (map string_bytes c.args.words.now.items)) c.in-Some.question asked a is (g.D.Desk.bytes c.args.desk.now) _ _ c.in-Ok-answer_files.ensures.written refused)
+pub returns-clause-refused : goal.returns-clause-refused
+returns-clause-refused g c = refused_own _ _ _ _ _ _ _ _ _ c.own_status.ensures c.run_program.ensures.words c.run_program.ensures.written c.run_program.ensures.why
 
-pub returns-in-Ok-answer_files-clause-turns : goal.returns-in-Ok-answer_files-clause-turns
-returns-in-Ok-answer_files-clause-turns g c =
-    let asked : asking_in (map string_bytes c.args.words.now.items) ≡ Some c.in-Some.question = rw (c.in-Some.is, c.as_slice.ensures.value) at (sym c.in-Ok.ensures) in
-    asked_turns (g.D.Desk.bytes c.args.desk.now) _ _ _ c.in-Some.question asked c.in-Ok-answer_files.ensures.turns
+pub returns-clause-no_memory : goal.returns-clause-no_memory
+returns-clause-no_memory g c = memory_own _ _ _ _ _ _ _ _ _ c.own_status.ensures c.run_program.ensures.words c.run_program.ensures.written c.run_program.ensures.why
 
-pub returns-in-Ok-answer_files-clause-names : goal.returns-in-Ok-answer_files-clause-names
-returns-in-Ok-answer_files-clause-names g c =
-    let asked : asking_in (map string_bytes c.args.words.now.items) ≡ Some c.in-Some.question = rw (c.in-Some.is, c.as_slice.ensures.value) at (sym c.in-Ok.ensures) in
-    asked_names (g.D.Desk.bytes c.args.desk.now) _ _ _ c.in-Some.question asked c.in-Ok-answer_files.ensures.names
+pub returns-clause-read_fault : goal.returns-clause-read_fault
+returns-clause-read_fault g c = read_own _ _ _ _ _ _ _ _ _ c.own_status.ensures c.run_program.ensures.why
 
-pub returns-in-Err-Read-clause-complete : goal.returns-in-Err-Read-clause-complete
-returns-in-Err-Read-clause-complete g c = λ a is accepted calm none.
-    let asked : asking_in (map string_bytes c.args.words.now.items) ≡ Some c.in-Some.question = rw (c.in-Some.is, c.as_slice.ensures.value) at (sym c.in-Ok.ensures) in
-    let unread : IsUnread c.in-Some.question (g.D.Desk.bytes c.args.desk.now) (g.D.Desk.faults c.args.desk.now) (g.D.Desk.faults c.answer_files.new.desk) c.in-Err-Read.line.items = rw c.in-Err-Read.field-0-is at c.in-Err-Read.ensures.caused in
-    absurd (never_unread (asking_in (map string_bytes c.args.words.now.items)) c.in-Some.question asked a is (g.D.Desk.bytes c.args.desk.now) (g.D.Desk.faults c.args.desk.now) (g.D.Desk.faults c.answer_files.new.desk) c.in-Err-Read.line.items unread calm)
+pub returns-clause-complete : goal.returns-clause-complete
+returns-clause-complete g c = λ a is accepted calm none.
+    end_own _ _ _ _ _ _ _ _ _ c.own_status.ensures c.run_program.ensures.words c.run_program.ensures.written c.run_program.ensures.why
+    (c.run_program.ensures.complete a is (accepted_front a (g.D.Desk.bytes c.args.desk.now) accepted) calm none)
 
-pub returns-in-Err-Read-clause-refuses : goal.returns-in-Err-Read-clause-refuses
-returns-in-Err-Read-clause-refuses g c = λ a is refused calm.
-    let asked : asking_in (map string_bytes c.args.words.now.items) ≡ Some c.in-Some.question = rw (c.in-Some.is, c.as_slice.ensures.value) at (sym c.in-Ok.ensures) in
-    let unread : IsUnread c.in-Some.question (g.D.Desk.bytes c.args.desk.now) (g.D.Desk.faults c.args.desk.now) (g.D.Desk.faults c.answer_files.new.desk) c.in-Err-Read.line.items = rw c.in-Err-Read.field-0-is at c.in-Err-Read.ensures.caused in
-    absurd (never_unread (asking_in (map string_bytes c.args.words.now.items)) c.in-Some.question asked a is (g.D.Desk.bytes c.args.desk.now) (g.D.Desk.faults c.args.desk.now) (g.D.Desk.faults c.answer_files.new.desk) c.in-Err-Read.line.items unread calm)
+pub returns-clause-refuses : goal.returns-clause-refuses
+returns-clause-refuses g c = λ a is refused calm.
+    refusal_own _ _ _ _ _ _ _ _ _ c.own_status.ensures c.run_program.ensures.words c.run_program.ensures.written c.run_program.ensures.why
+    (c.run_program.ensures.refused a is (refused_front a (g.D.Desk.bytes c.args.desk.now) refused) calm)
 
-pub returns-in-Err-Refused-clause-complete : goal.returns-in-Err-Refused-clause-complete
-returns-in-Err-Refused-clause-complete g c = λ a is accepted calm none.
-    let asked : asking_in (map string_bytes c.args.words.now.items) ≡ Some c.in-Some.question = rw (c.in-Some.is, c.as_slice.ensures.value) at (sym c.in-Ok.ensures) in
-    let refuses : RefusesWith c.in-Some.question (g.D.Desk.bytes c.args.desk.now) c.in-Err-Refused.line.items = rw c.in-Err-Refused.field-0-is at c.in-Err-Refused.ensures.caused in
-    absurd (never_refused (asking_in (map string_bytes c.args.words.now.items)) c.in-Some.question asked a is (g.D.Desk.bytes c.args.desk.now) c.in-Err-Refused.line.items refuses accepted)
+pub returns-clause-turns : goal.returns-clause-turns
+returns-clause-turns g c = turns_asked c.args.hints _ _ _ _ c.run_program.ensures.turns
+
+pub returns-clause-names : goal.returns-clause-names
+returns-clause-names g c = names_asked c.args.hints _ _ _ _ c.run_program.ensures.names
+
+pub own_status-requires : goal.own_status-requires
+own_status-requires g c = no_rejection _ _ _ _ _ _ c.run_program.ensures.written
