@@ -57,7 +57,12 @@ pub(crate) fn refuse<E: Sink>(name: &[u8], hints: bool, cause: &Cause<'_>, err: 
 {
     match cause {
         Cause::Read(file) => {
-            tell_error(err, hints, &[name, b": ", file.as_bytes(), b": read failed\n"], b"ReadFault");
+            tell_error(
+                err,
+                hints,
+                &[name, b": ", file.as_bytes(), b": read failed\n"],
+                b"ReadFault",
+            );
             Status::ReadFault
         }
         Cause::Refused(line) => {

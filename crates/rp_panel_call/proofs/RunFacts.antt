@@ -3,9 +3,10 @@ use Rattle.std.proofs.Common.{◌≡◌, ◌≢◌, ℕ, List, [], Option, Some,
 use Rattle.rp_outside.specs.Faults.{HasRisen}
 use Rattle.rp_outside.specs.Known.{Grows, Stays}
 use Rattle.rp_outside.specs.SureDesk.{SureState, bytes_or_none}
+use Rattle.rp_guide.specs.Gains.{Gains}
 use Rattle.rp_panel_run.specs.Endings.{Files, RefusesWith, AnswersWith, IsUnread}
 use Rattle.rp_panel_run.specs.Questions.{Asking}
-use Rattle.rp_panel_run.specs.Told.{Gains, usage_line}
+use Rattle.rp_panel_run.specs.Told.{usage_line}
 use Rattle.rp_panel_run.specs.declared.status.Status.{Status}
 use Rattle.rp_panel_run.specs.declared.status.Status.TheVariants.{Done, Usage, ReadFault, Refused, WriteFault, NoMemory}
 use Rattle.rp_panel_call.specs.InnerEndings.{IsRun, known_in}

@@ -1,5 +1,5 @@
 -- That an answer and a refusal exclude each other, and what neither of them can be.
-use Rattle.std.proofs.Common.{◌≡◌, ◌≢◌, ◌≤◌, ◌+◌, ◌⊎◌, ℕ, List, [], ◌∷◌, ◌++◌, if◌then◌else◌, Option, None, Some, Contains, inl, inr, length, refl, sym, subst, ap, ◌∙◌, arith}
+use Rattle.std.proofs.Common.{◌≡◌, ℕ, List, [], ◌∷◌, ◌++◌, if◌then◌else◌, Option, None, Some, inl, inr, length, sym, ap, ◌∙◌, arith}
 use Rattle.std.specs.Prelude.{codes, map, slice_index_or}
 use Rattle.std.specs.List.{flat_map}
 use Rattle.std.proofs.lemmas.List.{length-append}
@@ -7,24 +7,14 @@ use Rattle.csv.specs.Writing.{is_blank, row_body, row_text}
 use Rattle.rp_bound_rows.specs.RowText.{header_fields as bound_header, text_of_row}
 use Rattle.rp_bound_rows.specs.declared.asked.BoundsAsked.{BoundsAsked}
 use Rattle.rp_bounds_panel.specs.BoundsText.{unnamed_row as bound_unnamed}
-use Rattle.rp_limits.specs.declared.run.TheConstants.{MOST_BYTES}
 use Rattle.rp_long.specs.Panels.{Panel}
 use Rattle.rp_long.specs.declared.fault.LongFault.{LongFault}
-use Rattle.rp_outside.specs.Faults.{HasRisen}
 use Rattle.rp_panel.specs.PanelText.{unnamed_row}
 use Rattle.rp_rows.specs.RowText.{header_fields, line_of_row, panel_writer}
-use Rattle.rp_panel_run.specs.Endings.{AnswersWith, Contents, Files, IsAccepted, IsRefusal, IsRefused, IsTextBy, IsTextOf, IsUnread, NoneRose, RefusesWith}
+use Rattle.rp_panel_run.specs.Endings.{AnswersWith, Contents, Files, IsRefusal, IsTextBy, IsTextOf, RefusesWith}
 use Rattle.rp_panel_run.specs.Laws.{few_new}
-use Rattle.rp_panel_run.specs.Questions.{Asking, new_files}
+use Rattle.rp_panel_run.specs.Questions.{Asking}
 use Rattle.rp_panel_run.specs.Told.{file_line, left_out_lines, long_fault_text}
-use Rattle.rp_panel_run.specs.declared.status.Status.{Status}
-use Rattle.rp_panel_run.specs.declared.status.Status.TheVariants.{Done, NoMemory, WriteFault}
-
-pub accepted_refused : (a : Asking) (files : Files) (line : List ℕ) → IsAccepted a files → RefusesWith a files line → ⊥
-accepted_refused a files line accepted (held, contents, inl (inl long)) = omega (arith, (accepted held contents).long.few, long.many)
-accepted_refused a files line accepted (held, contents, inl (inr fault)) =
-    let is = (accepted held contents).long.denoted in let refused = fault.denoted in cc
-accepted_refused a files line accepted (held, contents, inr new) = omega (arith, (accepted held contents).new new.asked, new.many)
 
 pub text_refused : (a : Asking) (held : Contents) (text told line : List ℕ) → IsTextOf a held text told → IsRefusal a held line → ⊥
 text_refused a held text told line is (inl (inl long)) = omega (arith, is.few, long.many)
@@ -52,20 +42,6 @@ one_line a held line other (inl (inr fault)) (inr new) = let denoted = fault.den
 one_line a held line other (inr new) (inl (inl long)) = absurd (omega (arith, long.many, new.accepted.few))
 one_line a held line other (inr new) (inl (inr fault)) = let denoted = fault.denoted in let accepted = new.accepted.denoted in cc
 one_line a held line other (inr new) (inr also) = new.tells ∙ sym also.tells
-
-pub refused_answered : (a : Asking) (files : Files) (text told : List ℕ) → IsRefused a files → AnswersWith a files text told → ⊥
-refused_answered a files text told refused (held, contents, is) =
-    let why = refused held contents in
-    text_refused a held text told why.0 is why.1
-
-pub none_unread : (a : Asking) (files : Files) (before after : List ℕ → ℕ) (line : List ℕ) → NoneRose a before after → IsUnread a files before after line → ⊥
-none_unread a files before after line none (inl unread) = none a.file (0, omega arith, refl) unread.risen
-none_unread a files before after line none (inr new) = second a.bounds new.asked none new.unread.risen
-  where
-    second : (bounds : Option BoundsAsked) → bounds ≢ None → ((file : List ℕ) → Contains (a.file ∷ new_files bounds a.new_prices) file → ¬ HasRisen (before file) (after file))
-        → HasRisen (before a.new_prices) (after a.new_prices) → ⊥
-    second None some none risen = some refl
-    second (Some asked) some none risen = none a.new_prices (1, omega arith, refl) risen
 
 -- ---- what is no answer, and no refusal
 
@@ -106,23 +82,3 @@ pub no_empty_line : (a : Asking) (files : Files) → RefusesWith a files [] → 
 no_empty_line a files (held, contents, inl (inl long)) = no_line a.file (codes "TooLong") long.tells
 no_empty_line a files (held, contents, inl (inr fault)) = no_line a.file (long_fault_text fault.fault) fault.tells
 no_empty_line a files (held, contents, inr new) = no_line a.new_prices (codes "TooLong") new.tells
-
--- ---- by what words ask
-
-module _ (asked : Option Asking) (q : Asking) (is : asked ≡ Some q) (a : Asking) (also : asked ≡ Some a) (files : Files) where
-  same : a ≡ q
-  same = cc
-
-  pub never_refused : (line : List ℕ) → RefusesWith q files line → IsAccepted a files → ⊥
-  never_refused line refuses accepted = accepted_refused q files line (subst (λ (b : Asking). IsAccepted b files) same accepted) refuses
-
-  pub never_answered : (text told : List ℕ) → AnswersWith q files text told → IsRefused a files → ⊥
-  never_answered text told answers refused = refused_answered q files text told (subst (λ (b : Asking). IsRefused b files) same refused) answers
-
-  pub never_unread : (before after : List ℕ → ℕ) (line : List ℕ) → IsUnread q files before after line → NoneRose a before after → ⊥
-  never_unread before after line unread none = none_unread q files before after line (subst (λ (b : Asking). NoneRose b before after) same none) unread
-
--- a whole answer went out, or a write failed
-pub done_unless_risen : (s : Status) (before after : ℕ) → (s ≡ Done) ⊎ (s ≡ WriteFault) → (s ≡ WriteFault → HasRisen before after) → ¬ HasRisen before after → (s ≡ Done) ⊎ (s ≡ NoMemory)
-done_unless_risen s before after (inl done) rises none = inl done
-done_unless_risen s before after (inr cut) rises none = absurd (none (rises cut))

@@ -14,7 +14,7 @@ use Rattle.rp_front.specs.Gains.{GainsBoth}
 use Rattle.rp_front.specs.Lines as lines
 use Rattle.rp_front.specs.Lines.{hinted}
 use Rattle.rp_guide.specs.Codes.{code_of_line}
-use Rattle.rp_guide.specs.Gains.{SinkChange}
+use Rattle.rp_guide.specs.Gains.{Gains, SinkChange}
 use Rattle.rp_front.specs.Turns as turn
 use Rattle.rp_front.specs.declared.status.Status.{Status}
 use Rattle.rp_front.specs.declared.status.Status.TheVariants as status
@@ -25,9 +25,9 @@ use Rattle.rp_outside.specs.Asked.{Reads}
 use Rattle.rp_outside.specs.Faults.{HasRisen}
 use Rattle.rp_outside.specs.Known.{AreAll, Grows, GrowsByPrefix, Stays}
 use Rattle.rp_panel_run.specs.Endings.{AnswersWith, AreContents, Contents, Files, IsAccepted, IsLongRefusal, IsPanelFile, IsRefused, IsUnread, RefusesWith}
-use Rattle.rp_panel_run.specs.Front.{IsKnownLongRefusal, IsKnownNewRefusal, front_status, held_of, new_limits, panels}
+use Rattle.rp_panel_run.specs.Front.{IsKnownLongRefusal, front_status, held_of, new_limits, panels}
 use Rattle.rp_panel_run.specs.Questions.{Asking, files_of, id_name, new_files}
-use Rattle.rp_panel_run.specs.Told.{Gains, file_line, long_fault_text, memory_line, unread_line, usage_line, write_line}
+use Rattle.rp_panel_run.specs.Told.{file_line, long_fault_text, memory_line, unread_line, usage_line, write_line}
 use Rattle.rp_panel_run.specs.Turns.{AreAskedInTurn, AreInOrder, AreReadInTurn, AsksByName, AsksInTurn, IsKnownRefused, calls_of_long, calls_of_new}
 use Rattle.rp_panel_run.specs.declared.status.Status.{Status as Own}
 use Rattle.rp_panel_run.specs.declared.status.Status.TheVariants as mine

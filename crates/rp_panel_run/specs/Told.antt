@@ -1,11 +1,8 @@
--- What is told on standard error, and what known bytes gain from a text that a sink may fail to take whole (this
--- program's own texts).
-use Rattle.std.specs.Prelude.{ℕ, ◌⊎◌, List, [], ◌∷◌, ◌++◌, codes, Option}
+-- What is told on standard error (this program's own texts).
+use Rattle.std.specs.Prelude.{ℕ, List, [], ◌∷◌, ◌++◌, codes, Option}
 use Rattle.std.specs.Fmt.{decimal}
 use Rattle.std.specs.List.{flat_map}
 use Rattle.std.specs.Option.{option_map_or}
-use Rattle.rp_outside.specs.Faults.{HasRisen}
-use Rattle.rp_outside.specs.Known.{Grows, GrowsByPrefix}
 use Rattle.rp_long.specs.declared.fault.LongFault.{LongFault}
 use Rattle.rp_long.specs.declared.fault.LongFault.TheVariants as long_fault
 use Rattle.rp_rows.specs.Faults.{column_of_fault, fault_word, row_of_fault}
@@ -54,7 +51,3 @@ write_line = codes "rp-panel: write failed" ++ 10 ∷ []
 
 abbrev pub memory_line : List ℕ
 memory_line = codes "rp-panel: out of memory" ++ 10 ∷ []
-
--- known bytes grow by all of the text, or by some of it from its front where the count of faults has risen
-abbrev pub Gains : Option (List ℕ) → Option (List ℕ) → ℕ → ℕ → List ℕ → Type 0
-Gains old new before after text = Grows old new text ⊎ (GrowsByPrefix old new text × HasRisen before after)

@@ -4,13 +4,14 @@ ghost use Rattle.std.specs.Prelude.{codes, map, string_bytes};
 ghost use Rattle.rp_front.specs.Gains.{GainsBoth};
 ghost use Rattle.rp_front.specs.Lines.{hinted};
 ghost use Rattle.rp_guide.specs.Codes.{code_of_line};
+ghost use Rattle.rp_guide.specs.Gains.{Gains};
 ghost use Rattle.rp_outside.specs.Faults.{EachStays, HasRisen, NoneFalls};
 ghost use Rattle.rp_outside.specs.Known.{Grows, GrowsByPrefix, Stays};
 ghost use Rattle.rp_panel_run.specs.Endings.{AnswersWith, IsAccepted, IsRefused, IsUnread};
 ghost use Rattle.rp_panel_run.specs.Endings.{NoneRose, RefusesWith};
 ghost use Rattle.rp_panel_run.specs.Front.{front_status};
 ghost use Rattle.rp_panel_run.specs.Questions.{Asking, asking_in};
-ghost use Rattle.rp_panel_run.specs.Told.{Gains, memory_line, usage_line, write_line};
+ghost use Rattle.rp_panel_run.specs.Told.{memory_line, usage_line, write_line};
 ghost use Rattle.rp_panel_run.specs.Turns.{AsksByName, AsksInTurn};
 
 use crate::Status;

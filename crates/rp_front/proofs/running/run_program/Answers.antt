@@ -1,6 +1,5 @@
-use Rattle.std.proofs.Common.{◌≡◌, ◌∙◌, Some, None, map, string_bytes, refl, sym, subst, inl, inr}
-use Rattle.rp_front.specs.Endings.{IsEnd}
-use Rattle.rp_front.proofs.RunLemmas.{answer_written, answered_words, asked_names, asked_turns, cause_of_accepted, cause_of_calm, not_both, unasked, unread, why_of_cause, why_of_memory}
+use Rattle.std.proofs.Common.{sym}
+use Rattle.rp_front.proofs.RunLemmas.{unasked, unread, why_of_cause, why_of_memory}
 use Rattle.rp_front.proofs.running.run_program.Goals as goal
 
 pub returns-in_default-clause-turns : goal.returns-in_default-clause-turns

@@ -1,4 +1,4 @@
-use Rattle.std.proofs.Common.{◌≤◌, ◌+◌, List, ℕ, Option, length, sym, subst, arith}
+use Rattle.std.proofs.Common.{◌≤◌, ◌+◌, List, ℕ, Option, length, sym, subst}
 use Rattle.rp_front.specs.Turns.{AsksForFirst}
 use Rattle.rp_limits.specs.declared.long.TheConstants.{BYTES}
 use Rattle.rp_panel_run.specs.Front.{panels}
