@@ -1,10 +1,12 @@
 -- For the proofs alone: the laws of the program of panels that the trait `Program` asks for.
-use Rattle.std.proofs.Common.{◌≡◌, ◌≢◌, ◌≤◌, ℕ, List, Option, None, Some, inl, inr, length, refl, sym, subst, arith}
+use Rattle.std.proofs.Common.{◌≡◌, ◌≢◌, ◌≤◌, ℕ, List, Option, None, Some, Result, IfOk, inl, inr, length, refl, sym, subst, ◌∙◌}
+use Rattle.std.proofs.Math.Nat.{not-le_of_lt}
 use Rattle.rp_bound_rows.specs.declared.asked.BoundsAsked.{BoundsAsked}
 use Rattle.rp_front.specs.Endings.{IsEnd}
 use Rattle.rp_front.specs.declared.status.Status.{Status}
 use Rattle.rp_limits.specs.declared.run.TheConstants.{MOST_BYTES}
 use Rattle.rp_long.specs.Panels.{Panel}
+use Rattle.rp_long.specs.declared.fault.LongFault.{LongFault}
 use Rattle.rp_panel_run.specs.Endings.{IsTextBy}
 use Rattle.rp_panel_run.specs.Front.{IsKnownLongRefusal, IsKnownNewRefusal, panels}
 use Rattle.rp_panel_run.specs.Questions.{Asking}
@@ -33,6 +35,7 @@ answers_accepted a bytes s text told (done, is) = record {
 
 pub never_both : (a : Asking) (bytes : ℕ → List ℕ) (line : List ℕ) → panels.accepts a bytes
     → panels.refuses a (λ k. Some (bytes k)) line → ⊥
-never_both a bytes line accepted (inl (inl long)) = omega (arith, accepted.long.few, long.many)
-never_both a bytes line accepted (inl (inr fault)) = let is = accepted.long.denoted in let refused = fault.denoted in cc
-never_both a bytes line accepted (inr new) = omega (arith, accepted.new new.asked, new.many)
+never_both a bytes line accepted (inl (inl long)) = not-le_of_lt long.many accepted.long.few
+never_both a bytes line accepted (inl (inr fault)) =
+    subst (λ (r : Result Panel LongFault). IfOk r (λ panel. ⊥)) (sym fault.denoted ∙ accepted.long.denoted) tt
+never_both a bytes line accepted (inr new) = not-le_of_lt new.many (accepted.new new.asked)
