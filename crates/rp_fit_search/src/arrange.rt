@@ -5,6 +5,7 @@ use crate::graph::{Graph, entry, narrow};
 use crate::looks::Looks;
 use crate::order::{Order, rank_of};
 use crate::packing::Load;
+use rp_fit::WeightedWalk;
 
 /// How many looks the moves of one observation make for each of them, at most: each exchange makes four.
 const LOOKS_EACH: u64 = 16;
@@ -22,6 +23,15 @@ fn cost_of_row(row: &[u64], ranks: &[u32], own: u32, load: Load) -> u64 {
         }
     }
     cost
+}
+
+/// The weight of all walks together.
+fn weight_of(walks: &[WeightedWalk]) -> i128 {
+    let mut weight: i128 = 0;
+    for k in 0..walks.len() {
+        weight = weight.saturating_add(i128::from(walks[k].weight));
+    }
+    weight
 }
 
 /// An order that is being improved.
@@ -58,6 +68,43 @@ impl Arranging<'_> {
         order.exchange(rank);
         let after = self.cost_at(order, rank, looks)?;
         Some(after.saturating_sub(before))
+    }
+
+    /// What all steps cost that do not fall; none where no look is left.
+    fn cost(&self, order: &Order, looks: &mut Looks) -> Option<i128>
+        ensures { HasLooked looks.old looks.new }
+    {
+        let mut cost: i128 = 0;
+        for s in 0..self.prices.count() {
+            cost = cost.saturating_add(self.cost_from(order, s, looks)?);
+        }
+        Some(cost)
+    }
+
+    /// Whether the steps that do not fall cost no more than walks with weights over `den` show; no where no look is left.
+    pub(crate) fn is_met(
+        &self,
+        order: &Order,
+        den: u64,
+        walks: &[WeightedWalk],
+        looks: &mut Looks,
+    ) -> bool
+        ensures { HasLooked looks.old looks.new }
+    {
+        match self.cost(order, looks) {
+            Some(cost) => weight_of(walks) > i128::from(den).saturating_mul(cost.saturating_sub(1)),
+            None => false,
+        }
+    }
+
+    /// Whether the steps that do not fall cost less by one order than by another; no where no look is left.
+    pub(crate) fn is_cheaper(&self, one: &Order, other: &Order, looks: &mut Looks) -> bool
+        ensures { HasLooked looks.old looks.new }
+    {
+        match (self.cost(one, looks), self.cost(other, looks)) {
+            (Some(less), Some(more)) => less < more,
+            _ => false,
+        }
     }
 
     /// Moves the observation of a rank up to another. The change at the best rank on the way, and that rank.

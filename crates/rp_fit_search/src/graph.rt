@@ -37,6 +37,17 @@ impl Graph {
         Graph { rows }
     }
 
+    /// The number 0 for each two of so many observations.
+    pub(crate) fn blank(alloc: Global, count: u32) -> Result<Graph, NoMemory> {
+        let mut rows = Vec::new(alloc);
+        for _ in 0..count {
+            let mut row = Vec::new(alloc);
+            row.resize(count as usize, 0)?;
+            rows.push(row)?;
+        }
+        Ok(Graph { rows })
+    }
+
     /// The same numbers again.
     pub(crate) fn copied(&self, alloc: Global) -> Result<Graph, NoMemory> {
         let mut rows = Vec::new(alloc);

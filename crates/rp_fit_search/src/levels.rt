@@ -6,12 +6,10 @@ ghost use Rattle.rp_fit_search.specs.Looked.{HasLooked};
 ghost use Rattle.rp_table.specs.Cost.{cost_of};
 ghost use Rattle.rp_table.specs.Tables.{records_of};
 
-use crate::arrange::Arranging;
+use crate::found::find;
 use crate::levels_by_ranks::levels_by_ranks;
 use crate::looks::Looks;
-use crate::order::Order;
-use crate::packing::{Load, Packing};
-use crate::preference::prices;
+use crate::packing::Load;
 use rp_check_levels::{Measure, check_levels};
 use rp_clauses::input::Input;
 use rp_fit::{Lack, LevelsPart, WeightedWalk};
@@ -24,37 +22,6 @@ fn measure_of(lack: Lack) -> Measure {
         Lack::Mean => Measure::Levels,
         Lack::Squares => Measure::SquaredLevels,
     }
-}
-
-/// Ranks of the observations, and weighted closed walks.
-#[derive(Drop)]
-pub(crate) struct Found {
-    pub(crate) ranks: Vec<u32>,
-    pub(crate) walks: Vec<WeightedWalk>,
-}
-
-/// Ranks against which the strict steps cost little, and walks that show what they cost at least.
-pub(crate) fn find(
-    alloc: Global,
-    input: &Input<'_>,
-    measure: Measure,
-    load: Load,
-    looks: &mut Looks,
-) -> Result<Found, NoMemory>
-    ensures { IfOk result (λ _. HasLooked looks.old looks.new) }
-{
-    let mut packing = Packing::new(alloc, load, prices(alloc, input, measure)?)?;
-    packing.fill(alloc, looks)?;
-    let mut order = Order::falling(alloc, packing.left())?;
-    let arranging = Arranging {
-        prices: packing.prices(),
-        load,
-    };
-    arranging.improve(&mut order, looks);
-    Ok(Found {
-        ranks: order.ranks,
-        walks: packing.walks,
-    })
 }
 
 /// Levels at which the axiom holds below, close to 1 in the mean of what they lack or of its squares, with closed walks
@@ -75,17 +42,18 @@ pub fn search_levels(
     prove!(input.costs.n() > 0);
     let found = find(alloc, input, measure_of(lack), Load::AllDearer, looks)?;
     let plain = levels_by_ranks(alloc, input, lack, found.ranks)?;
-    let part = with_walks(alloc, &plain, found.walks)?;
+    let part = with_walks(alloc, &plain, found.den, found.walks)?;
     match check_levels(input, &part) {
         Ok(()) => Ok(part),
         Err(_) => Ok(plain),
     }
 }
 
-/// The levels with these walks.
+/// The levels with these walks, weighted over `den`.
 fn with_walks(
     alloc: Global,
     plain: &LevelsPart,
+    den: u64,
     walks: Vec<WeightedWalk>,
 ) -> Result<LevelsPart, NoMemory>
     ensures { IfOk result (λ part. part.lack ≡ plain.now.lack) }
@@ -94,7 +62,7 @@ fn with_walks(
         lack: plain.lack,
         at: Seq::from_vec(Vec::from_slice(alloc, plain.at.as_slice())?),
         ranks: Seq::from_vec(Vec::from_slice(alloc, plain.ranks.as_slice())?),
-        den: 1,
+        den,
         walks: Seq::from_vec(walks),
     })
 }

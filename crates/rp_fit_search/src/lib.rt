@@ -3,6 +3,8 @@
 #![tactic(auto)]
 
 mod arrange;
+mod cheapest;
+mod found;
 mod graph;
 mod kept;
 mod kept_alone;
@@ -15,6 +17,8 @@ mod looks;
 mod order;
 mod packing;
 mod preference;
+mod rounds;
+mod rows;
 mod shortest;
 mod steps;
 mod steps_by_ranks;

@@ -6,7 +6,7 @@ ghost use Rattle.rp_fit_search.specs.Looked.{HasLooked};
 ghost use Rattle.rp_table.specs.Cost.{cost_of};
 ghost use Rattle.rp_table.specs.Tables.{records_of};
 
-use crate::levels::find;
+use crate::found::find;
 use crate::looks::Looks;
 use crate::packing::Load;
 use crate::steps_by_ranks::steps_by_ranks;
@@ -31,7 +31,7 @@ pub fn search_steps(
 {
     let found = find(alloc, input, Measure::Steps, Load::Alone, looks)?;
     let plain = steps_by_ranks(alloc, input, found.ranks)?;
-    let part = with_walks(alloc, &plain, found.walks)?;
+    let part = with_walks(alloc, &plain, found.den, found.walks)?;
     match check_steps(input, &part) {
         Ok(()) => Ok(part),
         Err(_) => Ok(plain),
@@ -47,17 +47,18 @@ fn copied(alloc: Global, lists: &[Seq<u32>]) -> Result<Vec<Seq<u32>>, NoMemory> 
     Ok(copy)
 }
 
-/// The steps with these walks.
+/// The steps with these walks, weighted over `den`.
 fn with_walks(
     alloc: Global,
     plain: &StepsPart,
+    den: u64,
     walks: Vec<WeightedWalk>,
 ) -> Result<StepsPart, NoMemory> {
     Ok(StepsPart {
         taken: Seq::from_vec(copied(alloc, plain.taken.as_slice())?),
         cost: plain.cost,
         ranks: Seq::from_vec(Vec::from_slice(alloc, plain.ranks.as_slice())?),
-        den: 1,
+        den,
         walks: Seq::from_vec(walks),
     })
 }
