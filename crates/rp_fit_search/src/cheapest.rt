@@ -31,6 +31,14 @@ impl Reached {
     }
 }
 
+/// A closed walk from `start` that is shorter than `below`. The number of its first step is at least `first`.
+#[derive(Clone, Copy)]
+pub(crate) struct Sought {
+    pub(crate) start: u32,
+    pub(crate) first: u64,
+    pub(crate) below: u64,
+}
+
 /// A search for the cheapest closed walk from an observation that is cheaper than `below`: how each other one was
 /// reached, which are done, and how the start was reached again.
 #[derive(Drop)]
@@ -96,13 +104,21 @@ impl Search {
         }
     }
 
-    /// Goes on from `s` by the steps of a row to observations that are not closed off.
-    fn go_on(&mut self, s: u32, at: Reached, row: &[u64], lengths: &Graph, closed: &[bool]) {
+    /// Goes on from `s` by the steps of a row of at least so much to observations that are not closed off.
+    fn go_on(
+        &mut self,
+        s: u32,
+        at: Reached,
+        least: u64,
+        row: &[u64],
+        lengths: &Graph,
+        closed: &[bool],
+    ) {
         if (s as usize) < self.done.len() {
             self.done[s as usize] = true;
         }
         for t in 0..narrow(row.len()) {
-            if entry(row, t) > 0 && !is_closed(closed, t) {
+            if entry(row, t) >= least && !is_closed(closed, t) {
                 let by = Reached {
                     length: at.length.saturating_add(lengths.at(s, t)),
                     steps: at.steps.saturating_add(1),
@@ -134,37 +150,35 @@ impl Search {
     }
 }
 
-/// The cheapest closed walk from `start` by the lengths of its steps, through no observation twice and none that is
-/// closed off, which is shorter than `below`. A step is one with a number above 0 in `graph`. None where there is none,
-/// or where no look is left.
+/// The cheapest closed walk by the lengths of its steps that is sought, through no observation twice and none that is
+/// closed off. A step is one with a number above 0 in `graph`. None where there is none, or where no look is left.
 pub(crate) fn cheapest_closed_walk(
     alloc: Global,
     graph: &Graph,
     lengths: &Graph,
-    start: u32,
-    below: u64,
+    sought: Sought,
     closed: &[bool],
     looks: &mut Looks,
 ) -> Result<Option<Vec<u32>>, NoMemory>
     ensures { IfOk result (λ _. HasLooked looks.old looks.new) }
 {
-    let mut search = Search::new(alloc, start, graph.count(), below)?;
-    let mut next = Some((
-        start,
-        Reached {
-            length: 0,
-            steps: 0,
-            before: start,
-        },
-    ));
-    for _turn in 0..graph.count() {
+    let start = sought.start;
+    let mut search = Search::new(alloc, start, graph.count(), sought.below)?;
+    let first = Reached {
+        length: 0,
+        steps: 0,
+        before: start,
+    };
+    let mut next = Some((start, first));
+    for turn in 0..graph.count() {
         let Some((s, at)) = next else {
             break;
         };
         let Some(row) = graph.row(s, looks) else {
             return Ok(None);
         };
-        search.go_on(s, at, row, lengths, closed);
+        let least = if turn == 0 { sought.first } else { 1 };
+        search.go_on(s, at, least, row, lengths, closed);
         next = search.closest();
     }
     match search.end {

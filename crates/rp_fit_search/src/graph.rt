@@ -89,4 +89,11 @@ impl Graph {
             write(row.as_mut_slice(), t, number);
         }
     }
+
+    /// Writes the number of each step to `t`.
+    pub(crate) fn set_to(&mut self, t: u32, number: u64) {
+        for s in 0..self.count() {
+            self.set(s, t, number);
+        }
+    }
 }

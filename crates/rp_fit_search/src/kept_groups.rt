@@ -19,13 +19,23 @@ pub(crate) fn contradict(kinds: &Graph, s: u32, t: u32) -> bool {
 }
 
 /// Whether an observation contradicts each of these.
-fn contradicts_all(kinds: &Graph, members: &[u32], t: u32) -> bool {
+pub(crate) fn contradicts_all(kinds: &Graph, members: &[u32], t: u32) -> bool {
     for s in members {
         if !contradict(kinds, *s, t) {
             return false;
         }
     }
     true
+}
+
+/// How many observations a group allows.
+pub(crate) fn allowed_of(group: &Group) -> u32 {
+    match group.kind {
+        GroupKind::Pairs => 1,
+        GroupKind::Cycle => u32::try_from(group.members.as_slice().len())
+            .unwrap_or(u32::MAX)
+            .saturating_sub(2),
+    }
 }
 
 /// Observations that contradict each other two by two, from `s` on, of those that no group has yet.
@@ -53,14 +63,14 @@ fn close(closed: &mut [bool], s: u32) {
 }
 
 /// Closes off the members of a group.
-fn close_all(closed: &mut [bool], members: &[u32]) {
+pub(crate) fn close_all(closed: &mut [bool], members: &[u32]) {
     for k in 0..members.len() {
         close(closed, members[k]);
     }
 }
 
 /// A group of weight 1.
-fn group(kind: GroupKind, members: Vec<u32>) -> Group {
+pub(crate) fn group(kind: GroupKind, members: Vec<u32>) -> Group {
     Group {
         weight: 1,
         kind,
@@ -119,6 +129,23 @@ fn add_others(alloc: Global, groups: &mut Vec<Group>, closed: &[bool]) -> Result
         }
     }
     Ok(())
+}
+
+/// These groups with weight 1, and each of so many observations as one more.
+pub(crate) fn with_single_ones(
+    alloc: Global,
+    groups: &[Group],
+    count: u32,
+) -> Result<Vec<Group>, NoMemory> {
+    let mut all = Vec::new(alloc);
+    for k in 0..groups.len() {
+        let members = Vec::from_slice(alloc, groups[k].members.as_slice())?;
+        all.push(group(groups[k].kind, members))?;
+    }
+    for s in 0..count {
+        all.push(alone(alloc, s)?)?;
+    }
+    Ok(all)
 }
 
 /// Groups of weight 1, each observation in one: those that contradict each other, then violations, then single ones.

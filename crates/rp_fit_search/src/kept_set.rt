@@ -125,7 +125,7 @@ fn contradictions(kinds: &Graph, s: u32) -> u32 {
     count
 }
 
-/// The place of an observation in a list by how many contradict it.
+/// The place of an observation in a list in the order of some counts, behind those with the same count.
 fn place_of(counts: &[u32], list: &[u32], s: u32) -> usize
     ensures { result ≤ length list.now }
 {
@@ -137,18 +137,29 @@ fn place_of(counts: &[u32], list: &[u32], s: u32) -> usize
     list.len()
 }
 
-/// The observations, those that fewest contradict first.
-fn by_contradictions(alloc: Global, kinds: &Graph) -> Result<Vec<u32>, NoMemory> {
-    let mut counts = Vec::new(alloc);
-    for s in 0..kinds.count() {
-        counts.push(contradictions(kinds, s))?;
-    }
+/// A list of observations in the order of some counts, the lowest first.
+pub(crate) fn in_order(
+    alloc: Global,
+    counts: &[u32],
+    before: &[u32],
+) -> Result<Vec<u32>, NoMemory> {
     let mut list = Vec::new(alloc);
-    for s in 0..kinds.count() {
-        let at = place_of(counts.as_slice(), list.as_slice(), s);
-        list.insert(at, s)?;
+    for k in 0..before.len() {
+        let at = place_of(counts, list.as_slice(), before[k]);
+        list.insert(at, before[k])?;
     }
     Ok(list)
+}
+
+/// The observations, those that fewest contradict first.
+pub(crate) fn by_contradictions(alloc: Global, kinds: &Graph) -> Result<Vec<u32>, NoMemory> {
+    let mut counts = Vec::new(alloc);
+    let mut list = Vec::new(alloc);
+    for s in 0..kinds.count() {
+        counts.push(contradictions(kinds, s))?;
+        list.push(s)?;
+    }
+    in_order(alloc, counts.as_slice(), list.as_slice())
 }
 
 /// The set of those in a list that go with the ones before them.
@@ -230,17 +241,16 @@ fn ranks_within(
     Ok(ranks)
 }
 
-/// A consistent set of many observations: each in turn, those that fewest contradict first, where it goes with the ones
-/// before it.
+/// The consistent set of those in a list that go with the ones before them.
 pub(crate) fn consistent_set(
     alloc: Global,
     kinds: &Graph,
+    list: &[u32],
     looks: &mut Looks,
 ) -> Result<RankedSet, NoMemory>
     ensures { IfOk result (λ _. HasLooked looks.old looks.new) }
 {
-    let list = by_contradictions(alloc, kinds)?;
-    let within = greedy(alloc, kinds, list.as_slice(), looks)?;
+    let within = greedy(alloc, kinds, list, looks)?;
     let kept = members(alloc, within.as_slice())?;
     let ranks = ranks_within(alloc, kinds, kept.as_slice(), looks)?;
     Ok(RankedSet { kept, ranks })

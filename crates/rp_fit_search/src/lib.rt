@@ -9,6 +9,7 @@ mod graph;
 mod kept;
 mod kept_alone;
 mod kept_groups;
+mod kept_rounds;
 mod kept_set;
 mod kinds;
 mod levels;

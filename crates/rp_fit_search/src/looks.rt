@@ -24,6 +24,19 @@ impl Looks {
         self.limit - self.made >= looks
     }
 
+    /// Counts so many more looks, where they are left.
+    pub(crate) fn take_many(&mut self, looks: u64) -> bool
+        ensures limit { self.new.limit ≡ self.old.limit }
+        ensures taken { result ≡ true → self.new.made ≡ self.old.made + looks }
+        ensures not_fewer { self.old.made ≤ self.new.made }
+    {
+        if looks > self.limit - self.made {
+            return false;
+        }
+        self.made += looks;
+        true
+    }
+
     /// Counts one more look, where one is left.
     pub fn take(&mut self) -> bool
         ensures limit { self.new.limit ≡ self.old.limit }

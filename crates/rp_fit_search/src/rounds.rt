@@ -4,7 +4,7 @@
 ghost use Rattle.std.specs.Prelude.{◌≡◌, IfOk, vec_len};
 ghost use Rattle.rp_fit_search.specs.Looked.{HasLooked};
 
-use crate::cheapest::cheapest_closed_walk;
+use crate::cheapest::{Sought, cheapest_closed_walk};
 use crate::graph::{Graph, narrow};
 use crate::looks::Looks;
 use crate::packing::Load;
@@ -101,15 +101,19 @@ fn shown(
     }))
 }
 
-/// Solves the program of these walks. None where it has too many rows or a number passes its width.
+/// Solves the program of these walks, where a look for each row is left. None where none is, where it has too many rows or
+/// where a number passes its width.
 fn solved(
     alloc: Global,
     load: Load,
     prices: &Graph,
     walks: &[Vec<u32>],
-) -> Result<Option<Solution>, NoMemory> {
+    looks: &mut Looks,
+) -> Result<Option<Solution>, NoMemory>
+    ensures { IfOk result (λ _. HasLooked looks.old looks.new) }
+{
     let rows = Rows::of(alloc, load, prices, walks)?;
-    if rows.count() > MOST_ROWS {
+    if rows.count() > MOST_ROWS || !looks.take_many(rows.count() as u64) {
         return Ok(None);
     }
     let mut program = rows.program(alloc, walks)?;
@@ -134,15 +138,13 @@ fn add_cheap(
     closed.resize(prices.count() as usize, false)?;
     let mut is_added = false;
     for s in 0..closed.len() {
-        let walk = cheapest_closed_walk(
-            alloc,
-            prices,
-            &solution.lengths,
-            narrow(s),
-            solution.price,
-            closed.as_slice(),
-            looks,
-        )?;
+        let sought = Sought {
+            start: narrow(s),
+            first: 1,
+            below: solution.price,
+        };
+        let lengths = &solution.lengths;
+        let walk = cheapest_closed_walk(alloc, prices, lengths, sought, closed.as_slice(), looks)?;
         if let Some(walk) = walk {
             walks.push(walk)?;
             is_added = true;
@@ -166,7 +168,7 @@ pub(crate) fn rounds(
     let mut walks = walks;
     let mut last = None;
     for _round in 0..MOST_ROUNDS {
-        let Some(solution) = solved(alloc, load, prices, walks.as_slice())? else {
+        let Some(solution) = solved(alloc, load, prices, walks.as_slice(), looks)? else {
             return Ok(last);
         };
         let is_added = add_cheap(alloc, prices, &solution, &mut walks, looks)?;
