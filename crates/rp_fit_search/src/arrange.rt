@@ -81,7 +81,8 @@ impl Arranging<'_> {
         Some(cost)
     }
 
-    /// Whether the steps that do not fall cost no more than walks with weights over `den` show; no where no look is left.
+    /// Whether the steps that do not fall cost no more than walks with weights over `den` show; no where no look is
+    /// left.
     pub(crate) fn is_met(
         &self,
         order: &Order,

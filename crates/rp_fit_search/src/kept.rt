@@ -49,8 +49,8 @@ fn larger(one: RankedSet, other: RankedSet) -> RankedSet {
     }
 }
 
-/// A consistent set of many observations, and groups that show how many such a set has at most: greedy ones, and those of
-/// a linear program where they do not meet. None is looked for whether they pass the check.
+/// A consistent set of many observations, and groups that show how many such a set has at most: greedy ones, and those
+/// of a linear program where they do not meet. None is looked for whether they pass the check.
 fn find(alloc: Global, input: &Input<'_>, looks: &mut Looks) -> Result<KeptPart, NoMemory>
     ensures { IfOk result (λ _. HasLooked looks.old looks.new) }
 {

@@ -1,5 +1,5 @@
-//! Weighted groups of observations by a linear program: as much of the observations as the groups allow, where groups that
-//! are passed by its point are added, until none is found (Houtman and Maks 1985; Ford and Fulkerson 1958).
+//! Weighted groups of observations by a linear program: as much of the observations as the groups allow, where groups
+//! that are passed by its point are added, until none is found (Houtman and Maks 1985; Ford and Fulkerson 1958).
 ghost use Rattle.std.specs.Prelude.{IfOk};
 ghost use Rattle.rp_fit_search.specs.Looked.{HasLooked};
 

@@ -1,6 +1,6 @@
 //! Weighted closed walks by a linear program: a walk is worth 1 and loads its steps, the program is solved on integers,
-//! and walks that are cheaper by its prices than the denominator are added, until there is none (Ford and Fulkerson 1958;
-//! Gilmore and Gomory 1961).
+//! and walks that are cheaper by its prices than the denominator are added, until there is none (Ford and Fulkerson
+//! 1958; Gilmore and Gomory 1961).
 ghost use Rattle.std.specs.Prelude.{◌≡◌, IfOk, vec_len};
 ghost use Rattle.rp_fit_search.specs.Looked.{HasLooked};
 
@@ -101,8 +101,8 @@ fn shown(
     }))
 }
 
-/// Solves the program of these walks, where a look for each row is left. None where none is, where it has too many rows or
-/// where a number passes its width.
+/// Solves the program of these walks, where a look for each row is left. None where none is, where it has too many rows
+/// or where a number passes its width.
 fn solved(
     alloc: Global,
     load: Load,
