@@ -61,7 +61,7 @@ fn find(alloc: Global, input: &Input<'_>, looks: &mut Looks) -> Result<KeptPart,
     if narrow(set.kept.len()) >= allowed_by(groups.as_slice(), 1) {
         return Ok(part_of(set, 1, groups));
     }
-    let mut all = with_single_ones(alloc, groups.as_slice(), kinds.count())?;
+    let mut all = with_single_ones(alloc, groups.as_slice())?;
     let Some(weighing) = kept_rounds(alloc, &kinds, &mut all, looks)? else {
         return Ok(part_of(set, 1, groups));
     };

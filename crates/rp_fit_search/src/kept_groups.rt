@@ -131,19 +131,23 @@ fn add_others(alloc: Global, groups: &mut Vec<Group>, closed: &[bool]) -> Result
     Ok(())
 }
 
-/// These groups with weight 1, and each of so many observations as one more.
-pub(crate) fn with_single_ones(
-    alloc: Global,
-    groups: &[Group],
-    count: u32,
-) -> Result<Vec<Group>, NoMemory> {
+/// Adds each observation of a violation.
+fn add_single_ones(alloc: Global, groups: &mut Vec<Group>, walk: &[u32]) -> Result<(), NoMemory> {
+    for k in 1..walk.len() {
+        groups.push(alone(alloc, walk[k])?)?;
+    }
+    Ok(())
+}
+
+/// These groups with weight 1, and each observation of a violation as one more.
+pub(crate) fn with_single_ones(alloc: Global, groups: &[Group]) -> Result<Vec<Group>, NoMemory> {
     let mut all = Vec::new(alloc);
     for k in 0..groups.len() {
-        let members = Vec::from_slice(alloc, groups[k].members.as_slice())?;
-        all.push(group(groups[k].kind, members))?;
-    }
-    for s in 0..count {
-        all.push(alone(alloc, s)?)?;
+        let members = groups[k].members.as_slice();
+        if groups[k].kind == GroupKind::Cycle {
+            add_single_ones(alloc, &mut all, members)?;
+        }
+        all.push(group(groups[k].kind, Vec::from_slice(alloc, members)?))?;
     }
     Ok(all)
 }
