@@ -1,5 +1,5 @@
 mod AmountLemmas
 mod LineLemmas
 mod PlacesLemmas
-mod SmallLemmas
+pub mod SmallLemmas
 mod TextLemmas

@@ -36,13 +36,14 @@ small_shown p num value pair shown small lowest =
     let least = lowest_small num pair.den value (omega (arith, shown.den_positive)) lowest in
     (omega (arith, least.0, small), omega (arith, least.1, shown.den_fits))
 
-small_bound : (p : LinearProgram) (measure : (ℕ → ℕ) → ℕ) (bound : Bound) → ((pair : Pair) → IsShownPair p pair → measure (slice_index pair.x) < 2 ^ 107) → BoundHolds p measure bound → HasSmallParts bound
+-- what is shown by a pair of which the measure is small
+pub small_bound : (p : LinearProgram) (measure : (ℕ → ℕ) → ℕ) (bound : Bound) → ((pair : Pair) → IsShownPair p pair → measure (slice_index pair.x) < 2 ^ 107) → BoundHolds p measure bound → HasSmallParts bound
 small_bound p measure (Shown value pair) small holds = small_shown p (measure (slice_index pair.x)) value pair holds.0 (small pair holds.0) holds.1
 small_bound p measure (Wide step) small holds = tt
 
 -- ---- demand
 
-small_good : (p : LinearProgram) (g : ℕ) (bound : Bound) → g < p.rows → BoundHolds p (λ x. x g) bound → HasSmallParts bound
+pub small_good : (p : LinearProgram) (g : ℕ) (bound : Bound) → g < p.rows → BoundHolds p (λ x. x g) bound → HasSmallParts bound
 small_good p g bound row holds = small_bound p (λ x. x g) bound (λ pair shown. omega (arith, shown.x_fits g 0 (omega (arith, row, shown.x_length)))) holds
 
 small_goods : (input : TableInput) (prices : List ℕ) (m : ℕ) (below : List ℕ) (goods : List GoodBounds) → AreBoundsOf input (budget_of prices m) below goods → All HasSmallGood goods
@@ -71,8 +72,8 @@ sum_at_most f most zero each = omega arith
 sum_at_most f most (suc k) each = omega (arith, sum_at_most f most k (λ i i_in. each i (omega arith)), each k (omega arith))
 
 module _ (table : Observations) (valid : IsTable table) (prices : List ℕ) (new : AreNewPrices (goods_of table) prices) where
-  side_small : (x : List ℕ) → All FitsEvidence x → spending (goods_of table) (slice_index prices) (slice_index x) < 2 ^ 107
-  side_small x fits =
+  pub spending_small : (x : List ℕ) → All FitsEvidence x → spending (goods_of table) (slice_index prices) (slice_index x) < 2 ^ 107
+  spending_small x fits =
       let price : (g : ℕ) → slice_index prices g ≤ LARGEST = λ g. at_most prices LARGEST g (λ k d within. (new.fit k d within).1) in
       let small : (g : ℕ) → slice_index x g ≤ 2 ^ 63 = λ g. at_most x (2 ^ 63) g (λ k d within. omega (arith, fits k d within)) in
       let each : (g : ℕ) → g < goods_of table → slice_index prices g * slice_index x g ≤ LARGEST * 2 ^ 63 = λ g g_in. mul-le (slice_index prices g) (slice_index x g) LARGEST (2 ^ 63) (price g) (small g) in
@@ -81,5 +82,5 @@ module _ (table : Observations) (valid : IsTable table) (prices : List ℕ) (new
 
   pub small_welfare : (t : ℕ) (garp : Garp) (part : WelfarePart) → IsWelfareVerdict (input_of_table table) prices t garp part → HasSmallWelfare part
   small_welfare t garp (WelfareBounds upper at lower) given =
-      small_bound (least_cost_program (input_of_table table) (slice_index prices) given.lower_is.reached) (spending (goods_of table) (slice_index prices)) lower (λ pair shown. side_small pair.x shown.x_fits) given.lower_is.is_bound.value
+      small_bound (least_cost_program (input_of_table table) (slice_index prices) given.lower_is.reached) (spending (goods_of table) (slice_index prices)) lower (λ pair shown. spending_small pair.x shown.x_fits) given.lower_is.is_bound.value
   small_welfare t garp (NoWelfare walk) given = tt
