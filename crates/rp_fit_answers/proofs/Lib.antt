@@ -1,0 +1,4 @@
+pub mod CertificateLemmas
+pub mod FileLemmas
+pub mod Laws
+pub mod LoadLemmas

@@ -1,0 +1,7 @@
+pub mod Answers
+pub mod CheckText
+pub mod Contents
+pub mod GoodnessOfFit
+pub mod InnerCauses
+pub mod InnerLoadings
+pub mod Questions
