@@ -3,7 +3,6 @@ use Rattle.std.specs.Prelude.{ℕ, Bool, false, not, ◌&&◌, ◌==◌, if◌th
 use Rattle.std.specs.Str.{bytes_eq}
 use Rattle.rp_limits.specs.declared.run.TheConstants.{MOST_BYTES, MOST_CERTIFICATE_BYTES}
 use Rattle.rp_fit_answers.specs.declared.asked.Asked.{Asked}
-use Rattle.rp_fit_answers.specs.declared.asked.Asked.TheVariants as asked
 
 -- the check of a certificate on a table. Files are named
 pub data Question : Type 0 where
@@ -11,7 +10,7 @@ pub data Question : Type 0 where
 
 -- what is asked, as the code has it
 abbrev pub question_of : Asked → Question
-question_of (asked.CheckFit table certificate) = CheckFit table.now certificate.now
+question_of asked = CheckFit asked.table.now asked.certificate.now
 
 -- a word that may be a file's name: not empty, and not begun as an option is
 abbrev pub is_file_name : List ℕ → Bool

@@ -2,14 +2,11 @@
 ghost use Rattle.std.specs.Prelude.{◌≡◌, map, option_map, string_bytes};
 ghost use Rattle.rp_fit_answers.specs.Questions.{asked_in, check_of, is_file_name, question_of};
 
-/// What words ask. Files are named.
+/// What words ask: the check of a certificate on a table. Both files are named.
 #[derive(Drop)]
-pub enum Asked<'w> {
-    /// The check of a certificate on a table.
-    CheckFit {
-        table: &'w str,
-        certificate: &'w str,
-    },
+pub struct Asked<'w> {
+    pub table: &'w str,
+    pub certificate: &'w str,
 }
 
 /// What words ask, the program's name first.
@@ -33,7 +30,7 @@ fn check_of<'w>(table: &'w str, certificate: &'w str) -> Option<Asked<'w>>
     ensures { option_map question_of result ≡ check_of table.now certificate.now }
 {
     if is_file_name(table.as_bytes()) && is_file_name(certificate.as_bytes()) {
-        return Some(Asked::CheckFit { table, certificate });
+        return Some(Asked { table, certificate });
     }
     None
 }
