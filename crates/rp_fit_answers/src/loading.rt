@@ -96,11 +96,7 @@ fn load_certificate<'a, D: Desk>(
 }
 
 /// The items of the certificate that the bytes of a file denote.
-fn certificate_of<'a>(
-    alloc: Global,
-    file: &'a str,
-    bytes: &[u8],
-) -> Result<Seq<FitItem>, Cause<'a>>
+fn certificate_of<'a>(alloc: Global, file: &'a str, bytes: &[u8]) -> Result<Seq<FitItem>, Cause<'a>>
     requires { length bytes.now ≤ MOST_CERTIFICATE_BYTES }
     ensures { MatchResult result (λ items. CertificateIn file.now bytes.now (Ok items))
         (IsReadingCause (CertificateIn file.now bytes.now)) }

@@ -1,3 +1,4 @@
 pub mod Filling
+pub mod FitHelping
 pub mod Helping
 pub mod InnerRan

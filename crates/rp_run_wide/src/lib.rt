@@ -3,6 +3,7 @@
 #![tactic(auto)]
 
 mod edition;
+mod fitting;
 mod helping;
 mod hinting;
 mod laws;
