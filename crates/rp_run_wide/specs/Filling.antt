@@ -1,6 +1,6 @@
 -- What the wider edition of the program prints: what was computed, with what is withheld filled where evidence is found
 -- (this project's own).
-use Rattle.std.specs.Prelude.{◌≡◌, ◌++◌, ℕ, List, [], ◌∷◌, codes}
+use Rattle.std.specs.Prelude.{◌≡◌, ◌++◌, List, codes}
 use Rattle.rp_answers.specs.Printed.{Printed}
 use Rattle.rp_answers.specs.ReportOrJson.{report_or_json}
 use Rattle.rp_answers.specs.TrialLines.{trial_head, verdict_lines}
@@ -15,13 +15,8 @@ use Rattle.rp_evidence.specs.declared.homothetic.Homothetic.{Homothetic}
 use Rattle.rp_filled.specs.Filled.{IsFilledCertificate, IsFilledVerdict}
 use Rattle.rp_filled.specs.FilledCosts.{AreFilledBounds}
 
--- the line of the command that this program alone has
-abbrev pub own_usage : List ℕ
-own_usage = codes "       rp-wide checkfit TABLE CERT" ++ 10 ∷ []
-
 -- the report or the JSON of the certificate filled, the report of the bounds filled, the lines of the verdicts with the
--- homothetic one filled; the usage text under the program's own name, with its own command; and choices whose types need
--- not be listed
+-- homothetic one filled; the usage text under the program's own name; and choices whose types need not be listed
 abbrev pub as_filled : Printed
 as_filled = record {
   of_certificate = λ json table stated text. (filled : Certificate)
@@ -31,6 +26,6 @@ as_filled = record {
   of_trial = λ seed rows goods garp efficiency stated quasilinear text. (filled : Homothetic)
       × IsFilledVerdict (input_of_table (trial_of seed rows goods)) stated filled
       × (text ≡ trial_head seed rows goods ++ verdict_lines garp efficiency filled quasilinear);
-  usage = usage_text_of (codes "rp-wide") ++ own_usage;
+  usage = usage_text_of (codes "rp-wide");
   limits = Unlisted;
 }

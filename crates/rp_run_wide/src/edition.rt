@@ -57,7 +57,7 @@ impl Edition for Filled {
     }
 
     fn usage() -> &'static [u8] {
-        b"usage: rp-wide pairs TABLE\n       rp-wide analyse TABLE\n       rp-wide certify TABLE\n       rp-wide check TABLE CERT\n       rp-wide demand TABLE NEW [--json]\n       rp-wide welfare TABLE NEW [--json]\n       rp-wide utility TABLE BUNDLES\n       rp-wide random BUDGETS CHOICES [--per N] [--json]\n       rp-wide checkrandom BUDGETS CHOICES CERT [--per N]\n       rp-wide patches BUDGETS CHOICES [--per N]\n       rp-wide trial SEED ROWS GOODS\n       rp-wide menus FILE [--per N]\n       rp-wide pump TABLE\n       rp-wide cost TECH NEW\n       rp-wide power TABLE SEED N\n       rp-wide checkfit TABLE CERT\n"
+        b"usage: rp-wide pairs TABLE\n       rp-wide analyse TABLE\n       rp-wide certify TABLE\n       rp-wide check TABLE CERT\n       rp-wide demand TABLE NEW [--json]\n       rp-wide welfare TABLE NEW [--json]\n       rp-wide utility TABLE BUNDLES\n       rp-wide random BUDGETS CHOICES [--per N] [--json]\n       rp-wide checkrandom BUDGETS CHOICES CERT [--per N]\n       rp-wide patches BUDGETS CHOICES [--per N]\n       rp-wide trial SEED ROWS GOODS\n       rp-wide menus FILE [--per N]\n       rp-wide pump TABLE\n       rp-wide cost TECH NEW\n       rp-wide power TABLE SEED N\n"
     }
 
     fn limits() -> ChoiceLimits {
