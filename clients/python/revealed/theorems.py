@@ -8,11 +8,13 @@ import sys
 from typing import Any
 
 from . import commands, program, worker
-from .commands import BUDGETS, CERTIFICATE, CHOICES, TABLE
+from .commands import BUDGETS, CERTIFICATE, CHOICES, MENUS, TABLE, TECHNOLOGY
 from .faults import BadData, Failed, NoProgram
-from .measures import MoneyPump
+from .measures import CostMinimisation, MenuVerdict, MoneyPump
 
-RESULT = "pump.txt"
+RESULT = "result.txt"
+# The answers that stand in a report, with the option of rp-second and the file that it takes beside the report.
+REPORTS: dict[type, tuple[str, str]] = {MoneyPump: ("--pump", TABLE), MenuVerdict: ("--menus", MENUS), CostMinimisation: ("--cost", TECHNOLOGY)}
 VARIABLE = "RP_SECOND"
 NAME = "rp-second.exe" if sys.platform == "win32" else "rp-second"
 INSTALL = (
@@ -29,7 +31,7 @@ def theorem(data: Any, certificate: Any = None, *, per: Any = None, pairs: bool 
 
     `per` rounds the shares of choices to this number of units, as in `random_utility`; a result of `random_utility` has its own.
     `pairs=True` proves which observations of a table contradict each other, and how many by each axiom. It needs no certificate.
-    `pump=True` proves the maximum money pump index of a table. A result of `money_pump` is taken as it is.
+    `pump=True` proves the maximum money pump index of a table. Results of `money_pump`, `menus` and `cost` are taken as they are.
 
     Coq checks the file by `coqc -Q second/theories Second Paper.v`, so you need not trust this package. Compare the text of the table in
     the file with your data.
@@ -42,8 +44,8 @@ def theorem(data: Any, certificate: Any = None, *, per: Any = None, pairs: bool 
     words, files = _of_pairs(data, certificate, per, pump) if pairs else _of_answer(data, certificate, per, pump)
     status, out, said = worker.run(path, ["--theorem", *words], files)
     if status == 1:
-        what = "certificate proves" if CERTIFICATE in files else "cycle and the values of the money pump prove"
-        raise BadData(f"the {what} nothing of these data, and there is no theorem: {out.decode().strip()}")
+        what = "certificate" if CERTIFICATE in files else "report"
+        raise BadData(f"the {what} proves nothing of these data, and there is no theorem: {out.decode().strip()}")
     if status != 0:
         raise Failed(status, said.decode(errors="replace").strip())
     text = out.decode()
@@ -63,8 +65,10 @@ def _of_pairs(data: Any, certificate: Any, per: Any, pump: bool) -> tuple[list[s
 
 def _of_answer(data: Any, certificate: Any, per: Any, pump: bool) -> tuple[list[str], dict[str, bytes]]:
     """Returns the words and the files of the theorems on an answer, or on data with a certificate."""
+    if certificate is None and isinstance(data, tuple(REPORTS)):
+        return _of_report(data, per)
     answer = data if certificate is None else certificate
-    if certificate is None and not hasattr(data, "certificate") and not isinstance(data, MoneyPump):
+    if certificate is None and not hasattr(data, "certificate"):
         asked = data if isinstance(data, tuple) else (data,)
         answer = commands.pump(*asked) if pump else commands.analyse(*asked)
     files, per, _ = commands._files(answer if certificate is None else data, per)
@@ -79,6 +83,15 @@ def _of_answer(data: Any, certificate: Any, per: Any, pump: bool) -> tuple[list[
     files[CERTIFICATE] = commands.certificate_bytes(answer)
     names = [TABLE] if TABLE in files else [BUDGETS, CHOICES]
     return [*names, CERTIFICATE, *commands._units(per)], files
+
+
+def _of_report(answer: Any, per: Any) -> tuple[list[str], dict[str, bytes]]:
+    """Returns the words and the files of the theorems on an answer that stands in a report."""
+    word, name = next(it for kind, it in REPORTS.items() if isinstance(answer, kind))
+    files, per, _ = commands._files(answer, per)
+    if per is not None:
+        raise BadData("theorems on the money pump, on menus and on cost have no rounded shares: leave per out")
+    return [word, name, RESULT], {name: files[name], RESULT: commands.certificate_bytes(answer)}
 
 
 def _table_alone(files: dict[str, bytes]) -> dict[str, bytes]:

@@ -23,6 +23,7 @@ BUDGETS, CHOICES = (
 )
 MIXED = '{"items":[{"den":"1","item":"random","parts":[[[1,4],"1"],[[2,3],"2"]],"total":"4","weights":["1","0","1","0"]}],"kind":"random","version":1}\n'
 PUMP = b"observations 2 goods 2 places 0 0\npump 1/5\ncycle 1 2 1\nvalues 0 0\n"
+OF_MENUS = b"alternatives 3 menus 2 cells 3 orders 2 total 2\nmenus violated share 1/2\nweights 0 1 0 over 1\npart b a c weight 1\n"
 # Stands for the program: it writes its words and the files that it is given.
 STANDS = '#!/bin/sh\n[ "$1" = --theorem ] || exit 2\necho "(* $* *)"\nshift\nfor it; do [ ! -f "$it" ] || cat "$it"; done\n'
 
@@ -83,9 +84,16 @@ class Given(unittest.TestCase):
     def test_a_money_pump(self):
         own = revealed.table([[1, 2], [2, 1]], [[1, 2], [2, 1]])
         answer = revealed.MoneyPump(own, PUMP)
-        expected = "(* --theorem --pump table.csv pump.txt *)\n" + own.csv().decode() + PUMP.decode()
+        expected = "(* --theorem --pump table.csv result.txt *)\n" + own.csv().decode() + PUMP.decode()
         self.assertEqual(revealed.theorem(answer, exe=self.program), expected)
         self.assertEqual(revealed.theorem(own, PUMP, pump=True, exe=self.program), expected)
+
+    def test_choices_from_menus(self):
+        own = revealed.MenuChoices([["abc", "a", 1], ["abc", "b", 1], ["ab", "b", 2]], None)
+        text = revealed.theorem(revealed.MenuVerdict(own, OF_MENUS), exe=self.program)
+        self.assertEqual(text, "(* --theorem --menus menus.csv result.txt *)\n" + own.csv().decode() + OF_MENUS.decode())
+        with self.assertRaisesRegex(BadData, "leave per out"):
+            revealed.theorem(revealed.MenuVerdict(own, OF_MENUS), per=5, exe=self.program)
 
     def test_what_is_rejected_has_no_theorem(self):
         self.program.write_text(
@@ -114,6 +122,13 @@ class Written(unittest.TestCase):
         self.assertIn(
             "Theorem money_pump_is : pump_index observed (1 # 5).",
             revealed.theorem(TABLE, PUMP, pump=True),
+        )
+
+    def test_theorems_of_menus(self):
+        own = revealed.MenuChoices([["abc", "a", 1], ["abc", "b", 1], ["ab", "b", 2]], None)
+        self.assertIn(
+            "Theorem greatest_share_is : forall K, greatest_share_of_rankings K observed (1 # 2).",
+            revealed.theorem(revealed.MenuVerdict(own, OF_MENUS)),
         )
 
     def test_theorems_of_choices(self):

@@ -6,9 +6,8 @@ rp_theorem <- function(data, certificate = NULL, file = NULL, levels = NULL, exe
   asked <- (if (pairs) asked_of_pairs else asked_of_answer)(data, certificate, per, levels, pump)
   ran <- by_program(c("--theorem", asked$words), list(asked$files), program)[[1]]
   if (identical(ran$status, 1L)) {
-    of_certificate <- "certificate.json" %in% asked$words
-    what <- if (of_certificate) "certificate proves" else "cycle and the values of the money pump prove"
-    bad_data("the ", what, " nothing of these data, and there is no theorem: ", trimws(ran$out))
+    what <- if ("certificate.json" %in% asked$words) "certificate" else "report"
+    bad_data("the ", what, " proves nothing of these data, and there is no theorem: ", trimws(ran$out))
   }
   if (!identical(ran$status, 0L)) stop(failed(ran$status, ran$said))
   text <- strsplit(ran$out, "\n", fixed = TRUE)[[1]]
@@ -27,21 +26,35 @@ asked_of_pairs <- function(data, certificate, per, levels, pump) {
 
 # Returns the words and the files of the theorems on an answer, or on data with a certificate.
 asked_of_answer <- function(data, certificate, per, levels, pump) {
-  pump <- pump || inherits(data, "rp_pump") || inherits(certificate, "rp_pump")
-  if (is.null(certificate) && !inherits(data, c("rp_test", "rp_demand", "rp_welfare", "rp_random", "rp_pump"))) {
-    test <- if (pump) function(...) rp_pump(...) else function(...) rp_test(..., levels = levels)
-    data <- if (is_sides(data)) test(data[[1]], data[[2]]) else test(data)
+  if (is.null(certificate) && pump && !inherits(data, "rp_pump")) {
+    data <- if (is_sides(data)) rp_pump(data[[1]], data[[2]]) else rp_pump(data)
+  }
+  if (is.null(certificate) && inherits(data, c("rp_pump", "rp_menus", "rp_cost"))) return(asked_of_report(data, per))
+  if (is.null(certificate) && !inherits(data, c("rp_test", "rp_demand", "rp_welfare", "rp_random"))) {
+    data <- if (is_sides(data)) rp_test(data[[1]], data[[2]], levels = levels) else rp_test(data, levels = levels)
     levels <- NULL
   }
   answer <- if (is.null(certificate)) data else certificate
-  of <- files_of(if (inherits(data, "rp_pump")) data$table else data, per, levels)
+  of <- files_of(data, per, levels)
   if (pump) {
-    is_answer <- inherits(answer, "rp_pump")
-    result <- if (is_answer) charToRaw(paste0(answer$report, "\n", collapse = "")) else certificate_bytes(answer)
-    return(list(words = c("--pump", "table.csv", "pump.txt"), files = c(table_alone(of), list(pump.txt = result))))
+    files <- c(table_alone(of), list(result.txt = certificate_bytes(answer)))
+    return(list(words = c("--pump", names(files)), files = files))
   }
   words <- c(names(of$files), "certificate.json", units_of(of$per))
   list(words = words, files = c(of$files, list(certificate.json = certificate_bytes(answer))))
+}
+
+# Returns the words and the files of the theorems on an answer that stands in a report.
+asked_of_report <- function(answer, per) {
+  if (!is.null(per)) bad_data("theorems on the money pump, on menus and on cost have no rounded shares: leave per out")
+  of <- switch(class(answer)[1],
+    rp_pump = list("--pump", "table.csv", answer$table),
+    rp_menus = list("--menus", "menus.csv", answer$menus),
+    rp_cost = list("--cost", "technology.csv", answer$technology)
+  )
+  report <- charToRaw(paste0(answer$report, "\n", collapse = ""))
+  files <- named(list(csv_lines(of[[3]]), report), c(of[[2]], "result.txt"))
+  list(words = c(of[[1]], names(files)), files = files)
 }
 
 # Returns the file of a table, and refuses other data.

@@ -11,7 +11,8 @@ rp_theorem(data, certificate = NULL, file = NULL, levels = NULL, exe = NULL,
 }
 \arguments{
 \item{data}{a result of \code{\link{rp_test}}, \code{\link{rp_demand}}, \code{\link{rp_welfare}} or \code{\link{rp_random}}, which has
-its own certificate. Or a result of \code{\link{rp_money_pump}}. Or a data frame, or a list of prices and quantities, which \code{rp_test} analyses. Or, with a certificate, data
+its own certificate. Or a result of \code{\link{rp_money_pump}}, \code{\link{rp_menus}} or
+\code{\link{rp_cost}}. Or a data frame, or a list of prices and quantities, which \code{rp_test} analyses. Or, with a certificate, data
 as for \code{\link{rp_check}}.}
 \item{certificate}{a result, its JSON as a text, or the name of its file.}
 \item{file}{the name of the file to write, such as \code{"Paper.v"}. \code{NULL} writes none.}
