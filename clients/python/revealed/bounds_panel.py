@@ -75,8 +75,8 @@ class BoundsPanel(Units):
         self.question = question
 
     def __getitem__(self, at: Any) -> Any:
-        """Returns the bounds of a unit, or of a slice a panel of these units."""
-        found = list.__getitem__(self, at)
+        """Returns the bounds of the unit of a position or of an id that is a text, or of a slice a panel of these units."""
+        found = self._unit(at)
         return BoundsPanel(self.by, found, self.units, self.question) if isinstance(at, slice) else found
 
     def records(self) -> list[dict[str, Any]]:

@@ -152,6 +152,15 @@ class Units(list):
         self.by = list(by)
         self.units = units
 
+    def _unit(self, key: Any) -> Any:
+        """Returns the unit of a position, or of an id: a text, or a tuple where several columns identify a unit."""
+        if not isinstance(key, (str, tuple)):
+            return list.__getitem__(self, key)
+        for row in self:
+            if row.key == key:
+                return row
+        raise KeyError(f"no unit of this panel has the id {exact.shown(key, repr)}: .frame() and .records() list the ids")
+
     def keys(self, row: Any) -> list[Any]:
         return list(row.key) if len(self.by) > 1 else [row.key]
 
@@ -204,8 +213,8 @@ class Panel(Units):
         self.offered: Offered | None = None
 
     def __getitem__(self, at: Any) -> Any:
-        """Returns a row, or of a slice a panel of these rows."""
-        found = super().__getitem__(at)
+        """Returns the row of a position or of an id that is a text, or of a slice a panel of these rows."""
+        found = self._unit(at)
         if not isinstance(at, slice):
             return found
         part = Panel(self.by, found, self.asked, self.units)
