@@ -7,6 +7,8 @@ from __future__ import annotations
 
 from fractions import Fraction
 from functools import partial
+from math import ceil, floor
+from numbers import Integral
 from typing import Any, Callable, Iterable, Iterator, Sequence
 
 from . import exact, program, wider
@@ -63,7 +65,7 @@ class UnitBounds:
     def __repr__(self) -> str:
         if self.fault is not None or not self.garp:
             return f"{self.key!r}: {self.message}"
-        told = (f"{place} at {row} {low} to {high}" for (row, place), (low, high) in self.bounds.items())
+        told = (f"{place} at {row}: {told_of(low, floor)} to {told_of(high, ceil)}" for (row, place), (low, high) in self.bounds.items())
         return f"{self.key!r}: {', '.join(told)}"
 
 
@@ -106,6 +108,11 @@ class BoundsPanel(Units):
         found = self.records()
         told = lambda it: exact.written(it) if isinstance(it, Fraction) else it
         made = pandas.DataFrame({name: [told(row[name]) for row in found] for name in self.names()})
+        for name in (AT[self.question], OF[self.question]):
+            own = [row[name] for row in found]
+            # A unit without bounds has neither, and integers beside a missing value become floats.
+            if any(it is not None for it in own) and all(it is None or isinstance(it, Integral) and abs(it) < 2**63 for it in own):
+                made[name] = pandas.array(own, dtype="Int64")
         return made.astype({"lower": "float64", "upper": "float64", "garp": "boolean"})
 
     def csv(self) -> bytes:
@@ -262,6 +269,11 @@ class BoundsFrame(LongFrame):
         found = UnitBounds(own.key, fault, lambda: self.refused(fault, at))
         found.record, found.column = at.get("record"), self.column_of(at["column"]) if "column" in at else None
         return found
+
+
+def told_of(amount: Fraction | None, rounded: Callable[[Fraction], int]) -> str:
+    """Returns the text of a bound with at most 6 decimal places: `rounded` is `floor` for a lower bound and `ceil` for an upper bound."""
+    return "undetermined" if amount is None else exact.decimal_text(Fraction(rounded(amount * 10**6), 10**6))
 
 
 def bound(text: str) -> Fraction | None:

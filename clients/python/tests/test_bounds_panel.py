@@ -2,9 +2,11 @@
 
 import unittest
 from fractions import Fraction
+from math import ceil, floor
 
 import revealed
 from revealed import AllRefused, BadData, Refused, program
+from revealed.bounds_panel import told_of
 
 # Two purchases that contradict each other, two that do not, and a price of 0.
 D = {"subject": ["a", "a", "b", "b", "c"], "p_x": [1, 2, 1, 2, 0], "p_y": [2, 1, 2, 1, 1], "q_x": [1, 2, 2, 1, 1], "q_y": [2, 1, 1, 2, 1]}
@@ -46,6 +48,28 @@ class Bounds(unittest.TestCase):
             repr(found).splitlines()[:3],
             ["panel of 3 subjects by 'subject', bounds on demand for 1", "garp violated 1: no bounds", "1 with an error: ZeroPrice, the first 'c'"],
         )
+
+    def test_a_unit_is_found_by_its_id(self):
+        found = bounds(revealed.panel_demand, D, "subject", {"x": [7], "y": [3]}, m=3)
+        self.assertIs(found["b"], found[1])
+        self.assertEqual(revealed.panel(D, "subject", progress=False)["c"].fault, "ZeroPrice")
+        with self.assertRaises(KeyError):
+            found["d"]
+
+    def test_bounds_are_printed_outward(self):
+        # Demand at prices (7, 3) and 3 is (3 / 7, 0) at most.
+        found = bounds(revealed.panel_demand, D, "subject", {"x": [7], "y": [3]}, m=3)
+        self.assertIn("x at 1: 0 to 0.428572", repr(found["b"]))
+        self.assertEqual((told_of(Fraction(1, 3), floor), told_of(Fraction(450), ceil), told_of(None, ceil)), ("0.333333", "450", "undetermined"))
+
+    def test_labels_stay_integers_beside_units_without_bounds(self):
+        try:
+            import pandas  # noqa: F401
+        except ImportError:
+            self.skipTest("pandas is not here")
+        frame = bounds(revealed.panel_welfare, {**D, "obs": [1, 2, 7, 8, 1]}, "subject", [1, 1]).frame()
+        self.assertEqual([str(frame[name].dtype) for name in ("prices", "observation")], ["Int64", "Int64"])
+        self.assertEqual(frame["observation"].dropna().tolist(), [7, 8])
 
     def test_an_error_of_the_new_prices_is_raised_once(self):
         for new, fault in [([1, 0], "ZeroPrice"), ([1.1234567, 1], "TooManyDecimals"), ({"x": [1], "z": [1]}, "OtherGoods")]:
