@@ -15,8 +15,10 @@ from .answers import Verdict
 from .faults import BadData
 
 PLAIN, LIGHT, STRONG = "#3b6ea5", "#b9c4d0", "#c0392b"
+# What is behind a label, so that no budget line crosses it; points and arrows are drawn over it.
+HALO = {"boxstyle": "round,pad=0.1", "facecolor": "white", "edgecolor": "none", "alpha": 0.8}
 # How many bins the bar of an index of 1 stands behind the others.
-SPIKE = 1
+SPIKE = 2
 
 
 def axes_of(ax: Any) -> Any:
@@ -53,8 +55,7 @@ def of_verdict(verdict: Verdict, ax: Any = None, *, labels: bool = True) -> Any:
         ax.scatter(*zip(*(bundles[at] for at in sorted(marked))), s=30, color=STRONG, zorder=4, label="choices of the cycle")
     arrows(ax, [bundles[place[label]] for label in cycle])
     if labels and (marked or len(bundles) <= 12):
-        for at in sorted(marked) if marked else range(len(bundles)):
-            ax.annotate(str(table.labels[at]), bundles[at], textcoords="offset points", xytext=(6, 5), fontsize=8, zorder=6)
+        label_points(ax, {str(table.labels[at]): bundles[at] for at in (sorted(marked) if marked else range(len(bundles)))})
     ax.set_xlabel(table.goods[0])
     ax.set_ylabel(table.goods[1])
     ax.set_xlim(left=0)
@@ -64,6 +65,15 @@ def of_verdict(verdict: Verdict, ax: Any = None, *, labels: bool = True) -> Any:
     if marked:
         ax.legend(frameon=False, fontsize=8)
     return ax
+
+
+def label_points(ax: Any, bundles: dict[str, Sequence[float]]) -> None:
+    """Writes the label of each bundle on the side away from the others, where no arrow of the cycle ends."""
+    center = [sum(it[axis] for it in bundles.values()) / len(bundles) for axis in (0, 1)]
+    for label, at in bundles.items():
+        across, up = (1 if own >= middle else -1 for own, middle in zip(at, center))
+        how = {"ha": "left" if across > 0 else "right", "va": "bottom" if up > 0 else "top", "fontsize": 8, "bbox": HALO}
+        ax.annotate(label, at, textcoords="offset points", xytext=(5 * across, 3 * up), zorder=2.5, **how)
 
 
 def arrows(ax: Any, walk: Sequence[Any]) -> None:
@@ -102,8 +112,9 @@ def of_panel(panel: Any, ax: Any = None, *, random: int = 1000, seed: Any = 1, b
     for at, (own, color, name) in enumerate(told):
         starts = [low + width * (place + 0.05 + 0.9 * at / len(told)) for place in [*range(bins), bins + SPIKE]]
         ax.bar(starts, shares_in(own, low, width, bins), width=0.9 * width / len(told), align="edge", color=color, label=name)
+    # The bins end at 1, and the bar behind them is of an index of 1, so its tick is no part of the scale.
     ticks = [it for it in ax.get_xticks() if low - width <= it < 1 - width]
-    ax.set_xticks([*ticks, 1 + width * (SPIKE + 0.5)], [*(f"{it:.3g}" for it in ticks), "1"])
+    ax.set_xticks([*ticks, 1, 1 + width * (SPIKE + 0.5)], [*(f"{it:.3g}" for it in ticks), "1", "exactly 1"])
     ax.set_xlabel("critical cost efficiency index")
     ax.set_ylabel("share")
     ax.legend(frameon=False, fontsize=8, loc="upper left")
