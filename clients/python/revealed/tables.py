@@ -104,7 +104,7 @@ class Sheet:
             return "The value is missing. Leave the row out, or fill in the value."
         number = exact.fraction_of(value)
         if fault == "BadNumber" and number is not None and number < 0:
-            return "Prices and quantities have no sign."
+            return "This number is negative. A price must be above 0, and a quantity 0 or more."
         if fault == "BadNumber" and kind == WHOLE and number is not None:
             return "This is a count, so it is an integer."
         if fault == "TooManyDecimals" and number is not None:

@@ -105,7 +105,7 @@ class Floats(unittest.TestCase):
         self.assertEqual((caught.exception.fault, caught.exception.column), ("ZeroPrice", 1))
 
     def test_missing_and_negative(self):
-        for value, told in [(float("nan"), "missing"), (None, "missing"), ("", "missing"), (-1.5, "no sign"), ("NA", "'NA'"), (float("inf"), "inf")]:
+        for value, told in [(float("nan"), "missing"), (None, "missing"), ("", "missing"), (-1.5, "is negative"), ("NA", "'NA'"), (float("inf"), "inf")]:
             with self.assertRaises(Refused) as caught:
                 revealed.analyse(revealed.from_frame({**YEARS, "q_wine": [1, value]}))
             refused = caught.exception

@@ -108,7 +108,7 @@ hint_of <- function(sheet, fault, column, value) {
   text <- if (is.null(value)) "" else number_texts(value, list(shortest = are_shortest(sheet$forms)))
   if (fault == "BadNumber" && !is.null(value)) {
     if (text == "") return("The value is missing. Leave the row out, or fill in the value.")
-    if (grepl("^-[0-9]", text)) return("Prices and quantities have no sign.")
+    if (grepl("^-[0-9]", text)) return("This number is negative. A price must be above 0, and a quantity 0 or more.")
     return(plain_hint(if (sheet$names[column] == "e") "BadLevel" else fault))
   }
   switch(fault,
