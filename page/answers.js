@@ -28,11 +28,14 @@ function card(title, verdict, looks, ...rest) {
   );
 }
 
+/** Lists of the evidence, a row for each observation; labels have a column where they are not the numbers. */
 function byObservation(table, columns) {
+  const isLabelled = table.labels.some((label, at) => label !== String(at + 1));
+  const own = (label) => (isLabelled ? [label] : []);
   const rows = table.labels.map(
-    (label, at) => [String(at + 1), label, ...Object.values(columns).map((list) => list.split(" ")[at] ?? "")],
+    (label, at) => [String(at + 1), ...own(label), ...Object.values(columns).map((list) => list.split(" ")[at] ?? "")],
   );
-  return tableOf(["observation", "label", ...Object.keys(columns)], rows, "evidence by observation");
+  return tableOf(["observation", ...own("label"), ...Object.keys(columns)], rows, "evidence by observation");
 }
 
 const walkOf = (list) => walkInWords(numbersIn(list));
@@ -44,8 +47,9 @@ function garpCard(item, table, levels) {
     const ranks = folded(
       "The evidence",
       say(
-        "A rank for each observation, the number of those that it is revealed preferred to. Each weak step leads " +
-          "to no higher rank and each strict step to a lower one, so no cycle can close.",
+        "The rank of an observation is the number of observations that it is revealed preferred to. A revealed " +
+          "preference never leads to a higher rank, and a strict one leads to a lower rank. Therefore no cycle has " +
+          "a strict one.",
       ),
       byObservation(table, { rank: item.ranks }),
     );
@@ -76,13 +80,20 @@ function efficiencyCard(item, table, levels) {
     { levels, bound: boundOf(fraction, attained) },
     { index: fraction, about: about(fraction) },
   );
+  const ranks = { "rank below the CCEI": item.below };
+  if (item["at ranks"]) ranks["rank at the CCEI"] = item["at ranks"];
+  const where = item["at ranks"] ? "below the CCEI, and at the CCEI itself" : "below the CCEI";
   const evidence = [
-    say("Ranks which show that GARP holds at every level below:"),
-    byObservation(table, { rank: item.below }),
+    say(
+      `GARP holds at every level ${where}. A revealed preference at these levels never leads to a higher rank, and a ` +
+        "strict one leads to a lower rank:",
+    ),
+    byObservation(table, ranks),
   ];
-  if (item.above) evidence.push(say(`A cycle which violates it at every level above: ${walkOf(item.above)}.`));
-  if (item["at cycle"]) evidence.push(say(`A cycle which violates it at the index: ${walkOf(item["at cycle"])}.`));
-  if (item["at ranks"]) evidence.push(say(`Ranks which show that it holds at the index: ${item["at ranks"]}.`));
+  if (item.above) evidence.push(say(`GARP is violated at every level above by the cycle ${walkOf(item.above)}.`));
+  if (item["at cycle"]) {
+    evidence.push(say(`GARP is violated at the CCEI itself by the cycle ${walkOf(item["at cycle"])}.`));
+  }
   return card("CCEI: how far are the choices from GARP?", verdict, "", folded("The evidence", ...evidence));
 }
 
@@ -104,11 +115,21 @@ function afriatCard(item, table, levels) {
     );
   }
   if (word === "none") {
-    const round = `The purchases contradict each other round the cycle ${walkOf(item.cycle)}.`;
+    const round = `The reason is the cycle ${walkOf(item.cycle)}.`;
     return card(title, verdict, "bad", say(round));
   }
   return card(title, verdict, "", say(`The program stopped ${item.verdict.replace(`${WITHHELD} `, "")}.`));
 }
+
+// What the values of a test that holds show, by its name.
+const VALUES = {
+  homothetic: () =>
+    "The value of each observation is at most the value of any other one times a ratio: what the bundle costs at the " +
+    "other prices, over what was spent there. Therefore no cycle has a product of ratios below 1.",
+  quasilinear: (table) =>
+    "The value of each observation is at most the value of any other one plus a difference: what the bundle costs at " +
+    `the other prices, less what was spent there, counted ${table.unitOfCosts}. Therefore no cycle has a sum below 0.`,
+};
 
 /**
  * The card of the homothetic or the quasilinear test; `steps` says its cycle in words, and `isWide` whether `rp` itself
@@ -122,7 +143,8 @@ function testCard(name, title, item, table, levels, steps, isWide = false) {
   if (word === "holds") {
     const columns = { value: item.values };
     if (item.values.includes("/")) columns.decimal = item.values.split(" ").map((it) => decimalOf(it, 6)).join(" ");
-    return card(title, verdict, "good", ...marked, folded("The evidence", byObservation(table, columns)));
+    const shows = folded("The evidence", say(VALUES[name](table)), byObservation(table, columns));
+    return card(title, verdict, "good", ...marked, shows);
   }
   if (word === "violated") {
     const evidence = folded("The evidence", listOf(steps(numbersIn(item.cycle), table)));

@@ -283,7 +283,7 @@ export function checkQuestion(client, says, files, words) {
   chooser.addEventListener("change", () => (pasted.value = ""));
   pasted.addEventListener("input", () => (chooser.value = ""));
   const explains =
-    "The checker takes the data and the certificate alone, whoever made it, and says whether it proves its verdicts.";
+    "The checker needs the data and the certificate only. It says whether the certificate proves its verdicts.";
   return question(says, explains, [
     labelled("Certificate", chooser),
     labelled("or its text", pasted),
@@ -316,7 +316,7 @@ function pairsSays(output, table) {
 export function tableQuestions(client, file, table, shows, hasOwnMoney = false) {
   const pair = question(
     "The first two observations that contradict each other",
-    "A quick look, with no evidence besides.",
+    "This looks at two observations at a time. GARP above looks at cycles of any length.",
     [],
     async (place) => {
       const answer = await client.answer(["pairs", file.name], [file]);

@@ -81,7 +81,16 @@ export class Purchases {
 
   /** The unit of money in which Afriat's numbers count, in words: with levels a thousandth of that of the costs. */
   get unit() {
-    const places = this.pricePlaces + this.quantityPlaces + (this.levels ? 3 : 0);
+    return this.#unitOf(this.levels ? 3 : 0);
+  }
+
+  /** The unit of money in which costs count, in words. */
+  get unitOfCosts() {
+    return this.#unitOf(0);
+  }
+
+  #unitOf(more) {
+    const places = this.pricePlaces + this.quantityPlaces + more;
     return places ? `in units of ${decimal(1n, places)} of money` : "in units of money";
   }
 }
@@ -148,10 +157,11 @@ export function cycleSentences(cycle, table) {
     const from = cycle[at];
     const [paid, other] = [table.cost(from - 1, from - 1), table.cost(from - 1, to - 1)];
     const counts = table.levels ? table.levels[from - 1] : 1000;
-    const held = table.levels
-      ? `, within the ${table.money(paid * BigInt(counts), 3)} that count of the ${table.money(paid)} paid`
-      : `, and paid ${table.money(paid)}`;
-    return `In ${name(from)} you could have had the bundle of ${to} for ${table.money(other)}${held}.`;
+    const held = table.levels ? `, of which ${table.money(paid * BigInt(counts), 3)} counts` : "";
+    return (
+      `In ${name(from)} the chosen bundle cost ${table.money(paid)}${held}. The bundle of observation ${to} would ` +
+      `have cost ${table.money(other)}.`
+    );
   });
 }
 
@@ -163,16 +173,16 @@ export function productSentences(cycle, table) {
     const [paid, other] = [table.cost(from - 1, from - 1), table.cost(from - 1, to - 1)];
     [num, den] = [num * other, den * paid];
     return (
-      `At the prices of ${from} the bundle of ${to} costs ${table.money(other)}, where ${table.money(paid)} was ` +
-      "paid: " +
-      `${withDecimal(inUnits(`${other}/${paid}`, 0))} of it.`
+      `At the prices of observation ${from}, the bundle of observation ${to} costs ${table.money(other)} and the ` +
+      `chosen bundle ${table.money(paid)}: the ratio is ${withDecimal(inUnits(`${other}/${paid}`, 0))}.`
     );
   });
   const together = inUnits(`${num}/${den}`, 0);
   const short = together.length < 60 ? withDecimal(together) : `about ${decimalOf(together, 6)}`;
   return [
     ...steps,
-    `Multiplied round the cycle this is ${short}, below 1. With such a preference it is nowhere below 1.`,
+    `The product of the ratios along the cycle is ${short}. With homothetic preferences, no cycle has a product ` +
+      "below 1.",
   ];
 }
 
@@ -184,15 +194,14 @@ export function sumSentences(cycle, table) {
     const more = table.cost(from - 1, to - 1) - table.cost(from - 1, from - 1);
     sum += more;
     return (
-      `At the prices of ${from} the bundle of ${to} costs ${table.money(more < 0n ? -more : more)} ` +
-      `${more < 0n ? "less" : "more"} than what was bought.`
+      `At the prices of observation ${from}, the bundle of observation ${to} costs ` +
+      `${table.money(more < 0n ? -more : more)} ${more < 0n ? "less" : "more"} than the chosen bundle.`
     );
   });
   return [
     ...steps,
-    `Added round the cycle the next bundles cost ${table.money(-sum)} less. Where worth is in money they nowhere ` +
-    "cost less: " +
-      "what each bundle is worth is added once, and taken away once.",
+    `The sum of the differences along the cycle is ${table.money(sum)}. With quasilinear utility, no cycle has a sum ` +
+      "below 0.",
   ];
 }
 

@@ -263,26 +263,29 @@ test("what bundles cost, and the steps of a cycle in words", () => {
   const table = new Purchases(parseRecords(CONTRADICTION, ","));
   assert.deepEqual([table.cost(0, 0), table.cost(0, 1), table.cost(1, 0), table.cost(1, 1)], [5n, 4n, 4n, 5n]);
   assert.deepEqual(cycleSentences([1, 2, 1], table), [
-    "In observation 1 you could have had the bundle of 2 for 4, and paid 5.",
-    "In observation 2 you could have had the bundle of 1 for 4, and paid 5.",
+    "In observation 1 the chosen bundle cost 5. The bundle of observation 2 would have cost 4.",
+    "In observation 2 the chosen bundle cost 5. The bundle of observation 1 would have cost 4.",
   ]);
   const held = new Purchases(parseRecords("p_a,q_a,p_b,q_b,e\n1,1,2,2,800\n2,2,1,1,1000\n", ","));
   assert.deepEqual(cycleSentences([1, 2, 1], held), [
-    "In observation 1 you could have had the bundle of 2 for 4, within the 4 that count of the 5 paid.",
-    "In observation 2 you could have had the bundle of 1 for 4, within the 5 that count of the 5 paid.",
+    "In observation 1 the chosen bundle cost 5, of which 4 counts. The bundle of observation 2 would have cost 4.",
+    "In observation 2 the chosen bundle cost 5, of which 5 counts. The bundle of observation 1 would have cost 4.",
   ]);
   assert.equal(walkInWords([1, 2, 1]), "from observation 1 to 2, and back to 1");
   assert.equal(walkInWords([3, 1, 2, 3]), "from observation 3 to 1 and 2, and back to 3");
   assert.deepEqual(productSentences([1, 2, 1], table), [
-    "At the prices of 1 the bundle of 2 costs 4, where 5 was paid: 4/5 (0.8) of it.",
-    "At the prices of 2 the bundle of 1 costs 4, where 5 was paid: 4/5 (0.8) of it.",
-    "Multiplied round the cycle this is 16/25 (0.64), below 1. With such a preference it is nowhere below 1.",
+    "At the prices of observation 1, the bundle of observation 2 costs 4 and the chosen bundle 5: the ratio is " +
+      "4/5 (0.8).",
+    "At the prices of observation 2, the bundle of observation 1 costs 4 and the chosen bundle 5: the ratio is " +
+      "4/5 (0.8).",
+    "The product of the ratios along the cycle is 16/25 (0.64). With homothetic preferences, no cycle has a product " +
+      "below 1.",
   ]);
   assert.deepEqual(sumSentences([1, 2, 1], table).slice(0, 2), [
-    "At the prices of 1 the bundle of 2 costs 1 less than what was bought.",
-    "At the prices of 2 the bundle of 1 costs 1 less than what was bought.",
+    "At the prices of observation 1, the bundle of observation 2 costs 1 less than the chosen bundle.",
+    "At the prices of observation 2, the bundle of observation 1 costs 1 less than the chosen bundle.",
   ]);
-  assert.match(sumSentences([1, 2, 1], table)[2], /^Added round the cycle the next bundles cost 2 less/);
+  assert.match(sumSentences([1, 2, 1], table)[2], /^The sum of the differences along the cycle is −2\./);
   const fine = new Purchases(parseRecords("obs,p_a,q_a\nx,1.25,0.5\ny,2,1\n", ","));
   assert.equal(fine.money(fine.cost(0, 0)), "0.625");
   assert.deepEqual(fine.labels, ["x", "y"]);
