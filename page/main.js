@@ -8,7 +8,7 @@ import { otherAnswers } from "./others.js";
 import { panelQuestions } from "./panel_questions.js";
 import { Panel, purchasesOf } from "./panels.js";
 import { tableQuestions } from "./questions.js";
-import { offeredSays, parseFault } from "./reports.js";
+import { meansOf, offeredSays, parseFault } from "./reports.js";
 import { Runs } from "./runs.js";
 import { Sheet, fitOf, longFiles, placeInFile, placeInWords, raggedRecord, splitHouseholds } from "./sheets.js";
 import { Slot } from "./slots.js";
@@ -141,7 +141,9 @@ function cleared() {
 function refused(shows, told) {
   const fault = parseFault(told);
   const slot = slots.find((it) => fault && it.sheet && it.file.name === fault.file);
-  const place = slot ? placeInWords(placeInFile(fault, slot.sheet.records, slot.mapping)) : "";
+  const where = slot ? placeInFile(fault, slot.sheet.records, slot.mapping) : null;
+  const place = where ? placeInWords(where) : "";
+  if (where) fault.means = slot.sheet.advice(meansOf(fault.fault, where));
   shows.tell(`Error: ${told.split("\n")[0]}`);
   shows.results(
     ...(fault ? [make("p", { className: "fault", textContent: `${fault.fault}${place}. ${fault.means}` })] : []),

@@ -205,8 +205,14 @@ export function sumSentences(cycle, table) {
   ];
 }
 
-/** What each fault means, and what to do. */
-export function meansOf(fault) {
+/** What each fault means, and what to do; of a number, with the cell where it should be. */
+export function meansOf(fault, place = null) {
+  if (fault === "BadNumber" && place?.record && place.column && !place.cell.trim()) {
+    return (
+      "The cell is empty, and no value is guessed. If the observation is missing, delete its row. If nothing of the " +
+      "good was bought, write 0."
+    );
+  }
   if (fault === "TooManyRecords") {
     const also = "If the rows are those of many units, choose the column that identifies them.";
     return `${sentenceOf("fault", fault)} ${also}`;

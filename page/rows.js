@@ -72,7 +72,7 @@ export function rowAt(row, numbers, place) {
   if (!row.fault) return { ...row, told: "" };
   const record = row.record ? numbers[Number(row.record) - 1] : 0;
   const at = place({ record, column: Number(row.column) });
-  const told = `${row.fault}${placeInWords(at)}. ${meansOf(row.fault)}`;
+  const told = `${row.fault}${placeInWords(at)}. ${meansOf(row.fault, at)}`;
   const text = (number) => (number ? String(number) : "");
   return { ...row, record: text(record), column: text(at.column), told };
 }

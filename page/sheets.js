@@ -253,6 +253,25 @@ export class Sheet {
     if (isOn && pair) this.made.delete(pair.find((it) => it !== key));
   }
 
+  /** The changes that are offered and neither made nor excluded by another one. */
+  get open() {
+    const isMade = (key) => (READINGS.find((it) => it.includes(key)) ?? [key]).some((it) => this.made.has(it));
+    return this.findings().filter((it) => it.change && !isMade(it.key));
+  }
+
+  /**
+   * What to do about a fault, where changes are open. `means` is what the fault means; with another mark between fields
+   * the program did not get the columns that the fault is about.
+   */
+  advice(means) {
+    const open = this.open;
+    if (!open.length) return means;
+    const says = open.length === 1
+      ? `A change that is offered for this file is not ticked: ${open[0].change}. Tick it, and run again.`
+      : `${open.length} changes that are offered for this file are not ticked. Tick them, and run again.`;
+    return open.some((it) => it.key === "separator") ? says : `${says} ${means}`;
+  }
+
   /** What has to be said before the file can be taken: words, or nothing. */
   lacks() {
     const open = this.findings().some((it) => it.key === "points as decimals");

@@ -317,6 +317,24 @@ test("what is found in files, and the change that is offered", () => {
   assert.equal(new TextDecoder().decode(sheet.bytesFor(null)), "p_a,q_a\n1.5,2\n");
 });
 
+test("a fault of a file names what is not ticked, and an empty cell", () => {
+  const sheet = new Sheet("a.csv", bytesOf("p_a;q_a\n1,5;2\n"));
+  assert.match(sheet.advice("x"), /^2 changes that are offered for this file are not ticked\./);
+  sheet.toggle("decimals", true);
+  assert.equal(
+    sheet.advice("x"),
+    "A change that is offered for this file is not ticked: write commas between the fields. Tick it, and run again.",
+  );
+  sheet.toggle("separator", true);
+  assert.equal(sheet.advice("x"), "x");
+  const doubtful = new Sheet("b.csv", bytesOf("p_a;q_a\n1,500;2\n"));
+  for (const it of ["separator", "thousands"]) doubtful.toggle(it, true);
+  assert.equal(doubtful.advice("x"), "x");
+  const empty = { record: 1, column: 2, name: "q_a", cell: " " };
+  assert.match(meansOf("BadNumber", empty), /^The cell is empty/);
+  assert.doesNotMatch(meansOf("BadNumber", { ...empty, cell: "x" }), /is empty/);
+});
+
 test("semicolons with 0,5 and 1.234 in one file are asked about", () => {
   const german = () => new Sheet("t.csv", bytesOf("p_a;q_a\n0,5;1.234\n2;3\n"));
   assert.deepEqual(
