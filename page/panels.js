@@ -1,6 +1,6 @@
 /** A panel: a verdict for each unit, a table that sorts and filters, and the distribution of the index. */
 import { tableAnswers } from "./answers.js";
-import { HOW_POWER_DRAWS, drawBehaviours, sharesTable } from "./benchmark.js";
+import { HOW_POWER_DRAWS, drawBehaviours, shareInWords, sharesTable } from "./benchmark.js";
 import { button, freshId, keepFile, labelled, make, numberField, say } from "./dom.js";
 import { MOST_SEED } from "./draws.js";
 import { limit, range } from "./facts.js";
@@ -30,6 +30,8 @@ export class Panel {
     [this.client, this.households, this.shows, this.where] = [client, households, shows, place];
     [this.files, this.hasLevels] = [files, hasLevels];
     [this.rows, this.random, this.order, this.filter] = [[], [], { column: null, falls: false }, ""];
+    // How many of the random behaviours violate GARP.
+    this.failing = 0;
     [this.hasOwnMoney, this.opening, this.took] = [hasOwnMoney, 0, ""];
     this.count = files.reduce((sum, it) => sum + it.households.length + it.unnamed, 0);
     this.columns = this.#columnsWith([]);
@@ -96,12 +98,13 @@ export class Panel {
     const given = this.households.filter((it) => answered.has(it.household));
     if (!given.length) return;
     const began = performance.now();
-    this.random = [];
+    [this.random, this.failing] = [[], 0];
     this.draw.disabled = true;
     const tables = given.map((it) => () => purchasesOf(it.bytes));
     try {
       await drawBehaviours(this.client, tables, Number(seed), Number(count), (parts) => {
         this.random.push(...parts.map((it) => it.efficiency));
+        this.failing += parts.filter((it) => it.garp === "violated").length;
         this.shows.progress(this.random.length, Number(count), began, "random behaviours");
       });
     } finally {
@@ -295,6 +298,9 @@ export class Panel {
       button("Keep the picture as SVG", () => keepFile("indices.svg", fileOf(svg), "image/svg+xml")),
     );
     const groups = { [this.units]: people, ...(this.random.length ? { "random behaviour": this.random } : {}) };
-    this.shares.replaceChildren(sharesTable(groups));
+    const power = this.random.length
+      ? [say(`${shareInWords(this.failing, this.random.length)} random behaviours violate GARP.`)]
+      : [];
+    this.shares.replaceChildren(sharesTable(groups), ...power);
   }
 }
