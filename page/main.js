@@ -262,10 +262,12 @@ function choose(chosen) {
 async function takeDropped(files) {
   if (files.length > slots.length) {
     const names = files.map((it) => it.name).join(", ");
-    const places = slots.length === 1 ? "Drop one file at a time" : `There are boxes for ${slots.length} files`;
+    const places = slots.length === 1
+      ? "Drop one file at a time. Rows of several subjects belong in one file, with a column of ids."
+      : `There are boxes for ${slots.length} files: drop each file on its own box.`;
     slots[0].refuse(
       `${files.length} files were dropped together, so none was taken: ${names}.`,
-      `${places}: drop each file on its own box. For a certificate, open Check a certificate below the results.`,
+      `${places} For a certificate, take its table first. Then open Check a certificate below the results.`,
     );
     return;
   }
