@@ -102,10 +102,11 @@ function afriatCard(item, table, levels) {
   const word = item.verdict.split(" ")[0];
   const verdict = sentence("afriat", word, { levels });
   if (word === "model") {
-    const spent = levels ? "beyond the part of what was spent that counts" : "beyond what was spent";
+    const spent = levels ? "the part of what was spent that counts" : "what was spent";
     const how = say(
-      "The utility of a bundle is the minimum, over the observations, of the number below plus lambda times what " +
-        `the bundle costs there ${spent}, counted ${table.unit}.`,
+      "The utility of a bundle is a minimum over the observations. For each observation, the utility below is added " +
+        "to lambda times an amount of money. The amount is what the bundle costs at the prices of the observation, " +
+        `less ${spent}, counted ${table.unit}.`,
     );
     return card(
       title,

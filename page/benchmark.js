@@ -13,8 +13,8 @@ import { RECORDS_AT_ONCE } from "./sheets.js";
 const [AT_ONCE, THRESHOLDS] = [50, [90, 95]];
 
 export const HOW_POWER_DRAWS =
-  "The command power draws shares as integers from 0 to 99 over their sum, which crowds them around equal " +
-  "shares, so fewer draws violate GARP than with uniform draws. The count is exact for its seed.";
+  "The command power draws an integer from 0 to 99 for each good, and divides each by their sum. Shares near to " +
+  "equal division are drawn more often, so fewer draws violate GARP than with uniform draws.";
 
 /**
  * Draws so many behaviours from a seed, each on the budgets of one table after another and then anew, and asks about

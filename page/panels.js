@@ -166,8 +166,8 @@ export class Panel {
       make("span", {
         className: "note",
         textContent:
-          "A spreadsheet may take a fraction as 4/5 for a date: there use efficiency_floor, rounded down. A name " +
-          "that begins with =, +, - or @ has a ' before it there.",
+          "In a spreadsheet, use efficiency_floor, which is rounded down: the spreadsheet may read the fraction 4/5 " +
+          "as a date. A name that begins with =, +, - or @ gets a ' in front.",
       }),
     );
   }
