@@ -201,7 +201,8 @@ async function answerPanel(slot, own) {
   const shows = { ...showsOf(own), place, called };
   const hasLevels = mapping.names(sheet.header).includes("e");
   const { hasOwnMoney } = mapping;
-  const panel = new Panel(client, households, { files, shows, place: placeOf, called, hasOwnMoney, hasLevels });
+  const advice = sheet.advice("");
+  const panel = new Panel(client, households, { files, shows, place: placeOf, called, advice, hasOwnMoney, hasLevels });
   slot.show(null, true);
   shows.tell(`${households.length} ${called.units}.`);
   shows.results(panel.place);

@@ -24,11 +24,12 @@ export const purchasesOf = (bytes) =>
  * run that the panel is of: `working`, `progress`, `tell`; `place` gives the place in the file of a fault.
  */
 export class Panel {
-  constructor(client, households, { files, shows, place, called, hasOwnMoney = false, hasLevels = false }) {
+  constructor(client, households, { files, shows, place, called, advice, hasOwnMoney = false, hasLevels = false }) {
     // What a unit is called, and what several are: by the name of the user's column.
     [this.name, this.units] = [called.name, called.units];
     [this.client, this.households, this.shows, this.where] = [client, households, shows, place];
-    [this.files, this.hasLevels] = [files, hasLevels];
+    // What to do about a file whose changes are not all ticked, or nothing.
+    [this.files, this.hasLevels, this.advice] = [files, hasLevels, advice];
     [this.rows, this.random, this.order, this.filter] = [[], [], { column: null, falls: false }, ""];
     // How many of the random behaviours violate GARP.
     this.failing = 0;
@@ -262,7 +263,7 @@ export class Panel {
     const alone = kept.filter((it) => it.observations === "1").length;
     const [worst] = [...refused, ...unnamed];
     const who = worst?.household ? `${worst.household}: ` : "a row: ";
-    const first = worst ? ` The first with an error is ${who}${worst.told}` : "";
+    const first = worst ? ` The first with an error is ${who}${worst.told} ${this.advice}`.trimEnd() : "";
     const nothing = alone ? ` (${alone} have one row, which cannot violate GARP)` : "";
     const held = this.hasLevels ? ", by their levels" : "";
     const none = unnamed.length ? ` ${unnamed.length} rows have no ${this.name}, and belong to no unit.` : "";
