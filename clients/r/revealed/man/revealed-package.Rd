@@ -63,6 +63,8 @@ Each condition is an \code{rp_error}. Its class says what went wrong:
 \code{budget}, \code{menu} and \code{item} (positions in what the program was given, from 1). It has the row's \code{label}, the column's
 \code{name}, the \code{value} there and a \code{hint}. Each is \code{NA} if there is none.}
 \item{\code{rp_all_refused}}{all units of a panel have one error. It is also an \code{rp_refused}.}
+\item{\code{rp_overspent}}{a choice costs more than its offered budget line. The condition has the \code{label} of the first such row,
+the \code{share} of the budget that it costs, and the \code{count} of such rows.}
 \item{\code{rp_bad_data}}{the data are not a table, and the program was not run.}
 \item{\code{rp_failed}}{the program ended with another exit code, \code{status}; \code{said} has its message.}
 \item{\code{rp_no_program}}{neither a program nor a library was found.}

@@ -40,7 +40,8 @@ the call stops with this error (\code{rp_all_refused}).
 \strong{Ids.} Blanks around an id are ignored. A row without an id belongs to no unit, and has a row of its own at the end.
 
 \strong{Intercepts.} Intercepts are exchanged for prices, which is exact. Each row then has its own unit of money. Therefore
-\code{quasilinear} is \code{NA}, and money pumps are not available.
+\code{quasilinear} is \code{NA}, and money pumps are not available. A choice that costs more than was offered, by more than rounding,
+stops the call for all units (\code{rp_overspent}).
 
 A part of the result, such as \code{x[x$garp, ]}, is a plain data frame. \code{as.data.frame(x)} is the whole result as one.
 \code{print} shows a summary, the errors by cause, and the first rows. For the evidence of one unit, call \code{\link{rp_test}} on
