@@ -1,9 +1,10 @@
 """The second checker at a command line, without the program.
 
 usage: python -m revealed.verify TABLE CERT
+       python -m revealed.verify BUDGETS CHOICES CERT [--per N]
 
-It says of a certificate on a table, or of a report of `pump`, what each item says and whether that is proved. It ends as `rp check`
-does: with 0 where no item fails, 1 where one does, 2 with another number of words, 3 where a file cannot be read, 4 where one is
+It says of a certificate on a table or on choices from budgets, or of a report of `pump`, what each item says and whether that is
+proved. It ends as `rp check` does: with 0 where no item fails, 1 where one does, 2 with another number of words, 3 where a file cannot be read, 4 where one is
 no table or no certificate, and 5 where the answer cannot be written. A certificate without items ends with 0 too, and its first
 line says that nothing is proved.
 """
@@ -18,12 +19,19 @@ from .faults import NoFile
 from .verifier import NoCertificate, NoTable
 
 
+USAGE = """usage: python -m revealed.verify TABLE CERT
+       python -m revealed.verify BUDGETS CHOICES CERT [--per N]"""
+
+
 def main(words: Sequence[str]) -> int:
-    if len(words) != 2:
-        print("usage: python -m revealed.verify TABLE CERT", file=sys.stderr)
+    names, per = list(words), None
+    if len(names) == 5 and names[3] == "--per" and names[4].isascii() and names[4].isdigit():
+        names, per = names[:3], int(names[4])
+    if len(names) not in (2, 3):
+        print(USAGE, file=sys.stderr)
         return 2
     data = []
-    for name in words:
+    for name in names:
         try:
             with open(name, "rb") as it:
                 data.append(it.read())
@@ -31,7 +39,7 @@ def main(words: Sequence[str]) -> int:
             print(f"{name} cannot be read: {wrong}", file=sys.stderr)
             return 3
     try:
-        found = verify(*data)
+        found = verify(data[0] if len(data) == 2 else (data[0], data[1]), data[-1], per=per)
     except (NoCertificate, NoFile, NoTable, ValueError) as wrong:
         print(f"refused: {wrong}", file=sys.stderr)
         return 4

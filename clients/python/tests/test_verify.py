@@ -14,6 +14,7 @@ from revealed import NoCertificate, NoTable
 from revealed.verifier import demand, tables, verify_choices, verify_table
 
 ONE = b"p_a,q_a\n2,3\n"
+EXAMPLES = pathlib.Path(__file__).resolve().parents[3] / "examples"
 CONTRADICTION = b"p_a,q_a,p_b,q_b\n1,1,2,2\n2,2,1,1\n"
 APART = b"p_a,q_a,p_b,q_b\n1,2,2,1\n2,1,1,2\n"
 EQUAL = b"p_a,q_a,p_b,q_b\n1,2,1,2\n1,3,1,1\n"
@@ -454,6 +455,7 @@ class Told(unittest.TestCase):
             files = {"t.csv": CONTRADICTION, "good.json": certificate(good), "bad.json": certificate(RANKS), "none.json": certificate()}
             for name, data in files.items():
                 (pathlib.Path(folder) / name).write_bytes(data)
+            chosen = [str(EXAMPLES / name) for name in ("budgets.csv", "choices.csv", "choices.json")]
             for words, status, told in (
                 (["t.csv", "good.json"], 0, "garp violated: proved"),
                 (["t.csv", "none.json"], 0, "nothing is proved"),
@@ -462,6 +464,11 @@ class Told(unittest.TestCase):
                 (["t.csv", "not there"], 3, "cannot be read"),
                 (["t.csv", "t.csv"], 4, "refused"),
                 (["good.json", "good.json"], 4, "refused"),
+                (chosen, 0, "random violated"),
+                ([*chosen, "--per", "8"], 1, "not proved"),
+                ([*chosen[:2], "good.json"], 4, "refused"),
+                ([*chosen, "--per"], 2, "BUDGETS CHOICES CERT"),
+                ([*chosen, "--per", "x"], 2, "usage"),
             ):
                 env = {**os.environ, "PYTHONPATH": str(pathlib.Path(revealed.__file__).parents[1])}
                 ran = subprocess.run([sys.executable, "-m", "revealed.verify", *words], cwd=folder, env=env, capture_output=True, text=True)
