@@ -18,8 +18,8 @@ REPORTS: dict[type, tuple[str, str]] = {MoneyPump: ("--pump", TABLE), MenuVerdic
 VARIABLE = "RP_SECOND"
 NAME = "rp-second.exe" if sys.platform == "win32" else "rp-second"
 INSTALL = (
-    "it is built from the folder second/ of the source by `make program`, with the packages coq, ocaml-findlib and libzarith-ocaml-dev of"
-    f" Debian 12: name it by exe=, or by the variable {VARIABLE}, or put it on the path"
+    f"the release has it for Linux in rp-second-VERSION.tar.gz: name it by exe=, or by the variable {VARIABLE}, or put it on the path. From"
+    " source, `make program` in the folder second/ builds it, with the packages coq, ocaml-findlib and libzarith-ocaml-dev of Debian 12"
 )
 
 

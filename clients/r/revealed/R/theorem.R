@@ -74,7 +74,7 @@ second_program <- function(exe = NULL) {
   if (!is.null(found)) return(found)
   no_program(
     if (given) c(quoted(paste(as.character(named), collapse = " ")), " is no program: ") else "there is no program rp-second on the path: ",
-    "it is built from the folder second/ of the source by `make program`, with the packages coq, ocaml-findlib and libzarith-ocaml-dev of ",
-    "Debian 12: name it by exe =, or by the variable RP_SECOND, or put it on the path"
+    "the release has it for Linux in rp-second-VERSION.tar.gz: name it by exe =, or by the variable RP_SECOND, or put it on the path. ",
+    "From source, `make program` in the folder second/ builds it, with the packages coq, ocaml-findlib and libzarith-ocaml-dev of Debian 12"
   )
 }

@@ -25,10 +25,9 @@ certificate.}
 \item{pump}{\code{TRUE} proves the maximum money pump index of a table.}
 }
 \details{
-\code{rp-second} is built from the folder \file{second/} of the source. On Debian 12, install the packages \code{coq},
-\code{ocaml-findlib} and \code{libzarith-ocaml-dev}, and run \code{make program} there. Then
-\code{coqc -Q second/theories Second Paper.v} checks the theorems. Compare the text of the table in \file{Paper.v} with
-your data.
+The release has \code{rp-second} for Linux in \file{rp-second-VERSION.tar.gz}. In the unpacked folder, \code{make theories}
+compiles the theories once, by the package \code{coq} of Debian 12. Then \code{coqc -Q theories Second Paper.v} checks the
+theorems there. Compare the text of the table in \file{Paper.v} with your data.
 }
 \value{
 The lines of the file, invisibly. A certificate that is rejected is an error, because it has no theorem.
