@@ -272,14 +272,15 @@ export function itemsInWords(text) {
 
 /** What the checker's answer means: of an accepted certificate each item, of a rejected one what it is worth. */
 export function checkInWords(output, text) {
-  const rejected = /^rejected item (\d+) (\w+)/.exec(output);
+  const rejected = /^rejected item (\d+) (\w+) place (\d+)/.exec(output);
   if (rejected) {
     const [item, reason] = [Number(rejected[1]), rejected[2]];
     const claim = item ? itemsInWords(text)[item - 1]?.says : "";
+    const at = item && Number(rejected[3]) ? `Place ${rejected[3]} of item ${item}: ` : "";
     const where = item ? `Item ${item} is the first that does` : "The certificate as a whole does";
     return [
       ...(claim ? [`Item ${item} claims: ${claim}.`] : []),
-      ...(sentenceOf("reason", reason) ? [sentenceOf("reason", reason)] : []),
+      ...(sentenceOf("reason", reason) ? [at + sentenceOf("reason", reason)] : []),
       `${where} not prove its verdict on these data. A rejected certificate proves nothing: its verdicts may be ` +
         "true or false, and the data may be others than those that it was made of. Take the data as they were then, " +
         "or make a new certificate and compare the two.",

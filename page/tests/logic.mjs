@@ -106,6 +106,8 @@ test("what a checked certificate proves, item by item", () => {
   assert.equal(rejected[0], "Item 2 claims: the CCEI is 4/5 (0.8), attained.");
   assert.equal(rejected[1], sentenceOf("reason", "Shape"));
   assert.match(rejected[2], /^Item 2 is the first .* proves nothing/);
+  const order = checkInWords("rejected item 2 Order place 1\n", text);
+  assert.equal(order[1], `Place 1 of item 2: ${sentenceOf("reason", "Order")}`);
   assert.match(checkInWords("rejected item 0 Levels place 1\n", text)[1], /^The certificate as a whole does not prove/);
   const none = checkInWords("accepted items 0 withheld 0\n", '{"items":[]}');
   assert.deepEqual(none, ["It has no items, so nothing is proved."]);
