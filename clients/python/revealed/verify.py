@@ -38,6 +38,9 @@ def main(words: Sequence[str]) -> int:
         except (OSError, ValueError) as wrong:
             print(f"{name} cannot be read: {wrong}", file=sys.stderr)
             return 3
+    if data[0].lstrip().startswith(b"{"):
+        print(f"refused: {names[0]} is JSON, and not a CSV file of data. Give the data first, and the certificate last.", file=sys.stderr)
+        return 4
     try:
         found = verify(data[0] if len(data) == 2 else (data[0], data[1]), data[-1], per=per)
     except (NoCertificate, NoFile, NoTable, ValueError) as wrong:

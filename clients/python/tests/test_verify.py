@@ -463,7 +463,7 @@ class Told(unittest.TestCase):
                 (["t.csv"], 2, "usage"),
                 (["t.csv", "not there"], 3, "cannot be read"),
                 (["t.csv", "t.csv"], 4, "refused"),
-                (["good.json", "good.json"], 4, "refused"),
+                (["good.json", "t.csv"], 4, "refused: good.json is JSON"),
                 (chosen, 0, "random violated"),
                 ([*chosen, "--per", "8"], 1, "not proved"),
                 ([*chosen[:2], "good.json"], 4, "refused"),
