@@ -73,7 +73,7 @@ class Refused(Problem, ValueError):
     name of this file: a `table`, `new` (prices or bundles), `budgets`, `choices`, `menus`, a `technology`, `asked` (outputs) or a
     `certificate`.
 
-    `label` is the row's own label in the data, `name` the column's name and `value` the value there. `budget`, `menu` and `item` are set if
+    `label` is the own label of the row, or of the budget, in the data, `name` the column's name and `value` the value there. `budget`, `menu` and `item` are set if
     the error has one. Each is None otherwise. `hint` says what to do.
     """
 
@@ -109,7 +109,7 @@ class Refused(Problem, ValueError):
         if self.file and self.file != "table":
             told.append(self.file)
         if self.label is not None:
-            told.append(f"row {shown(self.label, repr)}")
+            told.append(f"{'row' if self.budget is None else 'budget'} {shown(self.label, repr)}")
         if self.name is not None:
             told.append(f"column {self.name!r}")
         if self.value is not None:

@@ -40,7 +40,7 @@ refused <- function(fault, file = "table", places = list(), label = NA, name = N
   places <- named(lapply(kinds, place), kinds)
   told <- c(
     if (!identical(file, "table")) file,
-    if (!is.na(label)) paste("row", quoted(label)),
+    if (!is.na(label)) paste(if (is.na(places$budget)) "row" else "budget", quoted(label)),
     if (!is.na(name)) paste("column", quoted(name)),
     if (!is.na(value)) paste("value", value)
   )

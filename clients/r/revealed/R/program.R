@@ -239,12 +239,12 @@ text_of <- function(ran, sheets, good = 0) {
   if (ran$status %in% good) return(ran$out)
   told <- told_refusal(ran)
   if (is.null(told)) stop(failed(ran$status, ran$said))
-  for (own in sheets) {
-    if (own$file == told$file) stop(refusal(own, told$fault, told$places))
-  }
   label <- NA
   if (!is.null(told$places$budget)) {
     for (own in sheets) if (own$file == "budgets") label <- own$labels[told$places$budget]
+  }
+  for (own in sheets) {
+    if (own$file == told$file && is.na(label)) stop(refusal(own, told$fault, told$places))
   }
   file <- if (nzchar(told$file)) told$file else if (length(sheets)) sheets[[length(sheets)]]$file else "choices"
   stop(refused(told$fault, file, told$places, label, hint = plain_hint(told$fault)))
