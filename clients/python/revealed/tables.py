@@ -106,7 +106,7 @@ class Sheet:
         if fault == "BadNumber" and number is not None and number < 0:
             return "This number is negative. A price must be above 0, and a quantity 0 or more."
         if fault == "BadNumber" and kind == WHOLE and number is not None:
-            return "This is a count, so it is an integer."
+            return "This is a count, so it is an integer." + (f" {FROM_SHARES}" if 0 < number < 1 else "")
         if fault == "TooManyDecimals" and number is not None:
             may_be_a_line = kind == PRICES and self.kinds.count(PRICES) == 2 and not getattr(self, "own_money", False)
             return advice.too_many_places(kind, self.values(), may_be_a_line)
@@ -117,6 +117,7 @@ class Sheet:
         return advice.hint_of(fault)
 
 
+FROM_SHARES = "If you have shares, multiply them by 1000, or by another power of 10, and round them."
 Forms = Tuple[Form, Form]
 DEFAULT: Forms = (AS_THEY_ARE, AS_THEY_ARE)
 
@@ -367,6 +368,9 @@ def _has_rows(data: Any) -> bool:
 
 # ---- budgets with choices
 
+# Names by which people may mean `n`. Without `n` each row is one person's choice, so such a column must not be passed over.
+COUNTS = ("n", "share", "shares", "count", "counts", "freq", "frequency", "weight", "weights")
+
 
 class Choices:
     """Budgets, the choices from them, and the number of units that shares are rounded to."""
@@ -374,6 +378,10 @@ class Choices:
     def __init__(self, budgets: Any, choices: Any, per: int | None, forms: Forms = DEFAULT) -> None:
         prices, quantities = forms
         self.per = None if per is None else program.whole(per, "per", *PER)
+        if is_frame(budgets) and is_frame(choices):
+            first, second = ({str(name)[:2] for name in Frame(data, "budgets").names} & {"p_", "q_"} for data in (budgets, choices))
+            if first == {"q_"} and second == {"p_"}:
+                raise BadData("budgets and choices are exchanged: the budgets have columns q_NAME, and the choices p_NAME. Give the budgets first.")
         if is_frame(budgets):
             budgets = with_income(Frame(budgets, "budgets"))
         if is_frame(choices):
@@ -415,6 +423,12 @@ def counted(frame: Frame) -> dict[Any, list[Any]]:
     found = dict(frame.columns)
     if "n" in found or "budget" not in found:
         return found
+    unread = [str(name) for name in found if str(name).lower() in COUNTS]
+    if unread:
+        raise BadData(
+            f"choices: the column {unread[0]!r} is not read. Name it 'n' if its integers say how many people chose the bundle. {FROM_SHARES}"
+            " Leave the column out if each row is one person's choice."
+        )
     names = [name for name in found if name == "budget" or str(name).startswith("q_")]
     first: dict[Any, list[int]] = {}
     for at, row in enumerate(frame.rows(names)):

@@ -230,6 +230,15 @@ class Random(unittest.TestCase):
         with self.assertRaises(Refused) as caught:
             revealed.random(BUDGETS, {**CHOICES, "n": [1, 1, 0, 0]})
         self.assertEqual((caught.exception.fault, caught.exception.budget, caught.exception.label), ("NoChoices", 2, 2))
+        self.assertIn("choices, budget 2: ", str(caught.exception))
+
+    def test_shares_and_exchanged_frames(self):
+        shares = {name: values for name, values in CHOICES.items() if name != "n"}
+        for given in ({**CHOICES, "n": ["0.25", "0.75", "0.5", "0.5"]}, {**shares, "share": [0.25, 0.7, 0.5, 0.5]}):
+            with self.assertRaisesRegex(ValueError, "'(n|share)'.*If you have shares, multiply them"):
+                revealed.random(BUDGETS, given)
+        with self.assertRaisesRegex(BadData, "exchanged"):
+            revealed.random(CHOICES, BUDGETS)
 
 
 class Checks(unittest.TestCase):

@@ -59,6 +59,12 @@ one_row <- function(new, what) {
 # Returns the sheets of budgets and of choices from them.
 choices_of <- function(budgets, choices, per, forms) {
   if (inherits(budgets, "rp_choices")) return(budgets)
+  if (is.data.frame(budgets) && is.data.frame(choices)) {
+    of <- function(data) intersect(c("p_", "q_"), substring(names(data), 1, 2))
+    if (identical(of(budgets), "q_") && identical(of(choices), "p_")) {
+      bad_data("budgets and choices are exchanged: the budgets have columns q_NAME, and the choices p_NAME. Give the budgets first.")
+    }
+  }
   if (is.data.frame(budgets)) budgets <- with_income(budgets)
   if (is.data.frame(choices)) choices <- counted_choices(choices)
   first <- loose_sheet("budgets", budgets, "p_", "price", character(), c(w = "money"), forms)
@@ -83,12 +89,22 @@ with_income <- function(budgets) {
   budgets
 }
 
+# Names by which people may mean `n`. Without `n` each row is one person's choice, so such a column must not be passed over.
+count_names <- c("n", "share", "shares", "count", "counts", "freq", "frequency", "weight", "weights")
+
 # Returns a frame of choices with `n`, how many times each was made. Without that column each row is one person's choice, and rows that say
 # the same become one, which is called by the first of them.
 counted_choices <- function(choices) {
   if ("n" %in% names(choices)) return(choices)
   own <- choices[names(choices) == "budget" | startsWith(names(choices), "q_")]
   if (!"budget" %in% names(own) || length(own) < 2) return(choices)
+  unread <- names(choices)[tolower(names(choices)) %in% count_names]
+  if (length(unread)) {
+    bad_data(
+      "choices: the column ", quoted(unread[1]), " is not read. Name it 'n' if its integers say how many people chose the bundle. ", from_shares,
+      " Leave the column out if each row is one person's choice."
+    )
+  }
   key <- do.call(paste, c(lapply(unname(as.list(own)), function(it) if (is.double(it)) format(it, digits = 17) else as.character(it)), sep = "\r"))
   first <- which(!duplicated(key))
   found <- own[first, , drop = FALSE]

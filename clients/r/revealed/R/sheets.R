@@ -103,12 +103,15 @@ shown <- function(value) {
 
 is_missing <- function(value) identical(number_texts(value), "")
 
+from_shares <- "If you have shares, multiply them by 1000, or by another power of 10, and round them."
+
 # Returns what to do about a fault, or NA.
 hint_of <- function(sheet, fault, column, value) {
   text <- if (is.null(value)) "" else number_texts(value, list(shortest = are_shortest(sheet$forms)))
   if (fault == "BadNumber" && !is.null(value)) {
     if (text == "") return("The value is missing. Leave the row out, or fill in the value.")
     if (grepl("^-[0-9]", text)) return("This number is negative. A price must be above 0, and a quantity 0 or more.")
+    if (sheet$names[column] == "n" && grepl("^0*[.]0*[1-9]", text)) return(paste("This is a count, so it is an integer.", from_shares))
     return(plain_hint(if (sheet$names[column] == "e") "BadLevel" else fault))
   }
   switch(fault,

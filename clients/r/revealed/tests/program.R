@@ -143,7 +143,11 @@ stopifnot(identical(named$certificate, r$certificate))
 stopifnot(identical(rp_random(unname(as.matrix(budgets)), unname(as.matrix(choices)))$certificate, r$certificate))
 stopifnot(rp_random(budgets, choices[c(1, 3), ], per = 5)$rational, nrow(as.data.frame(r)) == 2)
 wrong <- caught(rp_random(budgets, choices[1:2, ]), "rp_refused")
-stopifnot(wrong$fault == "NoChoices", wrong$budget == 2)
+stopifnot(wrong$fault == "NoChoices", wrong$budget == 2, grepl("^choices, budget 2: ", conditionMessage(wrong)))
+for (given in list(transform(choices, n = n / 4), setNames(choices, c("budget", "q_bread", "q_wine", "share")))) {
+  stopifnot(grepl("'(n|share)'.*If you have shares, multiply them", conditionMessage(caught(rp_random(budgets, given), c("rp_refused", "rp_bad_data")))))
+}
+stopifnot(grepl("exchanged", conditionMessage(caught(rp_random(choices, budgets), "rp_bad_data"))))
 found <- rp_patches(cbind(budgets, obs = c("low", "high")), transform(choices, budget = rep(c("low", "high"), each = 2)))
 stopifnot(identical(found$patch, 1:4), identical(found$budget, c(1L, 1L, 2L, 2L)), identical(texts(found$share), c("1/4", "3/4", "1/2", "1/2")))
 stopifnot(identical(found$sides[, "low"], c("on", "on", "above", "below")), identical(found$sides[, "high"], c("above", "below", "on", "on")))
