@@ -19,6 +19,7 @@ LEVEL_HINT = f"A level is a share of what was spent, such as 0.95, or an integer
 ALSO = {
     "TooManyRecords": "If the rows are those of many units, they are a panel: panel(d, by=..).",
     "OwnLevels": "The argument levels gives them too.",
+    "UnknownBudget": "Budgets can have names: give them in a column 'budget' of both frames.",
     "TooManyCombinations": "Leave wide=False out, and have rp-wide beside the program, in the library, or named by RP_WIDE.",
     "TooManyTypes": "Leave wide=False out, and have rp-wide beside the program, in the library, or named by RP_WIDE.",
 }

@@ -40,6 +40,7 @@ sentence <- function(code, of = "fault") {
 
 # What an argument of this package does about a fault, behind that.
 also <- list(
+  UnknownBudget = "Budgets can have names: give them in a column 'budget' of both frames.",
   TooManyRecords = "If the rows are those of many units, they are a panel: rp_panel(data, by = ..).",
   OwnLevels = "The argument levels gives them too.",
   TooManyCombinations = "Leave wide = FALSE out, and have rp-wide beside the program, in the library, or named by RP_WIDE.",
