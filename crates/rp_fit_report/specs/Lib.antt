@@ -2,4 +2,5 @@ pub mod CyclesText
 pub mod KeptText
 pub mod LevelWalksText
 pub mod LevelsText
+pub mod StepsText
 pub mod ViolationsText

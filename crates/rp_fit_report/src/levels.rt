@@ -61,7 +61,7 @@ fn push_bounds(
 }
 
 /// Appends a line of two bounds after a word.
-fn push_range(
+pub(crate) fn push_range(
     alloc: Global,
     out: &mut Vec<u8>,
     word: &[u8],
@@ -213,7 +213,7 @@ fn measure_of(lack: Lack) -> Measure
 }
 
 /// The weights of all walks.
-fn weight_of(walks: &[WeightedWalk]) -> u128
+pub(crate) fn weight_of(walks: &[WeightedWalk]) -> u128
     ensures value { result ≡ weight_of_all walks.now }
     ensures small { result < 2 ^ 127 }
 {
