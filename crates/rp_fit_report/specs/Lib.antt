@@ -1,4 +1,5 @@
 pub mod CyclesText
+pub mod FitReportText
 pub mod KeptText
 pub mod LevelWalksText
 pub mod LevelsText

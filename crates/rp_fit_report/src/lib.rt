@@ -6,6 +6,7 @@ mod efficiency;
 mod kept;
 mod level_walks;
 mod levels;
+mod report;
 mod steps;
 mod violations;
 
@@ -14,5 +15,6 @@ pub use efficiency::push_efficiency;
 pub use kept::push_kept;
 pub use level_walks::{push_homothetic_level, push_pump_ratio, push_quasilinear_level};
 pub use levels::push_levels;
+pub use report::report_fit;
 pub use steps::push_steps;
 pub use violations::push_violations;

@@ -6,6 +6,7 @@ ghost use Rattle.rp_fit.specs.Steps.{all_spent};
 ghost use Rattle.rp_fit_report.specs.LevelsText.{range_text};
 ghost use Rattle.rp_fit_report.specs.StepsText.{is_exact, lower, removed_text, row_text, steps_text};
 ghost use Rattle.rp_fit_report.specs.StepsText.{upper};
+ghost use Rattle.rp_limits.specs.declared.table.TheConstants.{RECORDS};
 ghost use Rattle.rp_table.specs.Cost.{cost_of};
 ghost use Rattle.rp_table.specs.Tables.{records_of};
 
@@ -94,6 +95,7 @@ fn all_spent(input: &Input<'_>) -> u128
         ≡ all_spent (records_of input.now.table.now) (cost_of input.now.table.now) }
     ensures positive { 1 ≤ result }
     ensures small { result ≤ 2 ^ 60 }
+    ensures few { records_of input.now.table.now ≤ RECORDS }
 {
     let mut total = 0;
     for s in 0..input.n() {
