@@ -1,9 +1,9 @@
 -- What steps cost that are removed, beside all that was spent.
-use Rattle.std.proofs.Common.{◌≡◌, ◌<◌, ◌≤◌, ◌+◌, ◌-◌, ◌*◌, ◌^◌, ℕ, zero, suc, Bool, true, false, Ok, subst, arith, if◌then◌else◌}
+use Rattle.std.proofs.Common.{◌<◌, ◌≤◌, ◌+◌, ◌-◌, ◌*◌, ◌^◌, ℕ, zero, suc, Bool, true, false, Ok, subst, arith, if◌then◌else◌}
 use Rattle.std.proofs.Math.Nat.{mul-le-mul_left}
 use Rattle.rp_check_levels.proofs.Sound.{steps_prove}
 use Rattle.rp_check_levels.specs.StepsFailure.{StepsFail}
-use Rattle.rp_fit.specs.Steps.{all_spent, step_cost, taken_cost}
+use Rattle.rp_fit.specs.Steps.{all_spent, step_cost}
 use Rattle.rp_fit.specs.StepsEvidence.{is_taken}
 use Rattle.rp_fit.specs.declared.steps.StepsPart.{StepsPart}
 use Rattle.rp_table.specs.Sums.{sum_below}

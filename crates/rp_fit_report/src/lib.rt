@@ -4,6 +4,7 @@
 mod cycles;
 mod efficiency;
 mod kept;
+mod laws;
 mod level_walks;
 mod levels;
 mod report;
@@ -13,6 +14,7 @@ mod violations;
 pub use cycles::push_cycles;
 pub use efficiency::push_efficiency;
 pub use kept::push_kept;
+pub use laws::printed_upper_bound_holds;
 pub use level_walks::{push_homothetic_level, push_pump_ratio, push_quasilinear_level};
 pub use levels::push_levels;
 pub use report::report_fit;

@@ -1,4 +1,4 @@
-use Rattle.std.proofs.Common.{◌≡◌, Ok, sym, subst, arith}
+use Rattle.std.proofs.Common.{Ok, sym, subst, arith}
 use Rattle.rp_check_goodness.specs.FitVerdict.{FitItemFails}
 use Rattle.rp_evidence.specs.Input.{input_of_table}
 use Rattle.rp_fit_report.proofs.report.report_fit.Goals as goal

@@ -1,4 +1,4 @@
-use Rattle.std.proofs.Common.{◌≡◌, ◌≤◌, ◌^◌, subst}
+use Rattle.std.proofs.Common.{◌≤◌, ◌^◌, subst}
 use Rattle.rp_fit.specs.Steps.{all_spent}
 use Rattle.rp_table.specs.Cost.{cost_of}
 use Rattle.rp_table.specs.Tables.{records_of}

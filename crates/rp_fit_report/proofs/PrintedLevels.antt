@@ -1,0 +1,90 @@
+-- What is printed as the upper bound of levels is at least what they lack in the mean.
+use Rattle.std.proofs.Common.{◌≡◌, ◌<◌, ◌≤◌, ◌+◌, ◌-◌, ◌*◌, ◌/◌, ◌%◌, ◌^◌, ◌==◌, ℕ, zero, suc, Bool, true, false, refl, sym, subst, arith, mod-lt, slice_index, if◌then◌else◌}
+use Rattle.std.proofs.Math.Nat.{mul-le-mul_left}
+use Rattle.std.proofs.lemmas.Bool.Decides.{Decides-eqb}
+use Rattle.std.proofs.lemmas.Nat.{div-add-mod'}
+use Rattle.rp_check_levels.proofs.Floors.{pow_one, pow_two}
+use Rattle.rp_check_levels.specs.LevelsFailure.{measure_of}
+use Rattle.rp_check_levels.specs.Loads.{lack_floor}
+use Rattle.rp_fit.specs.Fractions.{fractions_below, product_below}
+use Rattle.rp_fit.specs.Levels.{LackAtMost, lack, lack_den}
+use Rattle.rp_fit.specs.LevelsEvidence.{level_den, level_num, power_of}
+use Rattle.rp_fit.specs.declared.levels.Lack.{Lack}
+use Rattle.rp_fit.specs.declared.levels.Lack.TheVariants.{Mean, Squares}
+use Rattle.rp_fit.specs.declared.levels.LevelsPart.{LevelsPart}
+use Rattle.rp_table.specs.Sums.{sum_below}
+use Rattle.rp_fit_report.specs.LevelsText.{lack_at, lack_total}
+
+-- a quotient that is rounded down, and one more, times the divisor
+one_over : (x k : ℕ) → 1 ≤ k → x ≤ (x / k + 1) * k
+one_over x k some =
+    let parts : x / k * k + x % k ≡ x = div-add-mod' x k in
+    let rest : x % k < k = mod-lt x some in
+    omega (arith, parts, rest)
+
+square_some : (a : ℕ) → 1 ≤ a → 1 ≤ a * a
+square_some a some = let h = mul-le-mul_left a some in omega (arith, h, some)
+
+-- a term that is left out is 0
+chosen : (there : Bool) (x limit d : ℕ) → (there ≡ true → x ≡ 0) → x * 2 ^ 40 ≤ (limit + 1) * d → x * 2 ^ 40 ≤ (if there then 0 else (limit + 1)) * d
+chosen true x limit d none most = let z = none refl in omega (arith, z)
+chosen false x limit d none most = most
+
+nothing_mean : (a b : ℕ) → b ≡ a → (a - b) ^ 1 ≡ 0
+nothing_mean a b e = let p = pow_one (a - b) in omega (arith, p, e)
+
+nothing_squares : (a b : ℕ) → b ≡ a → (a - b) ^ 2 ≡ 0
+nothing_squares a b e = let z : a - b ≡ 0 = omega (arith, e) in rw (pow_two (a - b), z) refl
+
+turned : (x y : ℕ) → 2 ^ 40 * x ≤ y → x * 2 ^ 40 ≤ y
+turned x y h = omega (arith, h)
+
+some_mean : (a : ℕ) → 1 ≤ a → 1 ≤ a ^ 1
+some_mean a some = subst (λ z. 1 ≤ z) (sym (pow_one a)) some
+
+some_squares : (a : ℕ) → 1 ≤ a → 1 ≤ a ^ 2
+some_squares a some = subst (λ z. 1 ≤ z) (sym (pow_two a)) (square_some a some)
+
+sum_more : (f p s l d a : ℕ) → f * 2 ^ 40 ≤ s * p → l * 2 ^ 40 ≤ a * d → (f * d + l * p) * 2 ^ 40 ≤ (s + a) * (p * d)
+sum_more f p s l d a so_far here =
+    let h = mul-le-mul_left d so_far in
+    let g = mul-le-mul_left p here in
+    omega (arith, h, g)
+
+module _ (c : ℕ → ℕ → ℕ) (part : LevelsPart) where
+  abbrev IsBounded : Lack → ℕ → Type 0
+  IsBounded by s = lack (power_of by) (level_num c part) (level_den c) s * 2 ^ 40 ≤ lack_at c (measure_of by) part.at 1 s * lack_den (power_of by) (level_den c) s
+
+  cost_of_own : (s t : ℕ) → t ≡ s → c s t ≡ c s s
+  cost_of_own s t e = rw e refl
+
+  -- what a level lacks, by what is counted for it
+  bounded : (by : Lack) (s : ℕ) → 1 ≤ c s s → IsBounded by s
+  bounded Mean s some =
+      chosen (slice_index part.at s == s) ((c s s - c s (slice_index part.at s)) ^ 1) (lack_floor 1 c s (slice_index part.at s)) (c s s ^ 1)
+      (λ e. nothing_mean (c s s) (c s (slice_index part.at s)) (cost_of_own s (slice_index part.at s) ((Decides-eqb (slice_index part.at s) s).0 e)))
+      (turned ((c s s - c s (slice_index part.at s)) ^ 1) ((lack_floor 1 c s (slice_index part.at s) + 1) * c s s ^ 1) (one_over (2 ^ 40 * (c s s - c s (slice_index part.at s)) ^ 1) (c s s ^ 1) (some_mean (c s s) some)))
+  bounded Squares s some =
+      chosen (slice_index part.at s == s) ((c s s - c s (slice_index part.at s)) ^ 2) (lack_floor 2 c s (slice_index part.at s)) (c s s ^ 2)
+      (λ e. nothing_squares (c s s) (c s (slice_index part.at s)) (cost_of_own s (slice_index part.at s) ((Decides-eqb (slice_index part.at s) s).0 e)))
+      (turned ((c s s - c s (slice_index part.at s)) ^ 2) ((lack_floor 2 c s (slice_index part.at s) + 1) * c s s ^ 2) (one_over (2 ^ 40 * (c s s - c s (slice_index part.at s)) ^ 2) (c s s ^ 2) (some_squares (c s s) some)))
+
+  sums : (m : ℕ) → ((s : ℕ) → s < m → 1 ≤ c s s)
+      → fractions_below m (lack (power_of part.lack) (level_num c part) (level_den c)) (lack_den (power_of part.lack) (level_den c)) * 2 ^ 40
+      ≤ sum_below m (lack_at c (measure_of part.lack) part.at 1) * product_below m (lack_den (power_of part.lack) (level_den c))
+  sums zero some = omega arith
+  sums (suc m) some =
+      let num = lack (power_of part.lack) (level_num c part) (level_den c) in
+      let den = lack_den (power_of part.lack) (level_den c) in
+      let counted = lack_at c (measure_of part.lack) part.at 1 in
+      sum_more (fractions_below m num den) (product_below m den) (sum_below m counted) (num m) (den m) (counted m)
+      (sums m (λ s s_in. some s (omega (arith, s_in)))) (bounded part.lack m (some m (omega arith)))
+
+mean : (n a s p : ℕ) → a * 2 ^ 40 ≤ s * p → a * (2 ^ 40 * n) ≤ s * (n * p)
+mean n a s p h = let g = mul-le-mul_left n h in omega (arith, g)
+
+pub printed_is_most : (n : ℕ) (c : ℕ → ℕ → ℕ) (part : LevelsPart) → ((s : ℕ) → s < n → 1 ≤ c s s)
+    → LackAtMost (power_of part.lack) n (level_num c part) (level_den c) (lack_total n c part 1) (2 ^ 40 * n)
+printed_is_most n c part some =
+    mean n (fractions_below n (lack (power_of part.lack) (level_num c part) (level_den c)) (lack_den (power_of part.lack) (level_den c)))
+    (sum_below n (lack_at c (measure_of part.lack) part.at 1)) (product_below n (lack_den (power_of part.lack) (level_den c))) (sums c part n some)
