@@ -10,5 +10,5 @@ pub fn printed_upper_bound_holds()
     ensures { (n : ℕ) (c : ℕ → ℕ → ℕ) (part : LevelsPart)
         → ((s : ℕ) → s < n → 1 ≤ c s s)
         → LackAtMost (power_of part.lack) n (level_num c part) (level_den c)
-            (lack_total n c part 1) (2 ^ 40 * n) }
+        (lack_total n c part 1) (2 ^ 40 * n) }
 {}

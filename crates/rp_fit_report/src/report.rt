@@ -18,11 +18,7 @@ use rp_print::push_head;
 use std::alloc::Global;
 
 /// The report of items that `check_fit` accepts: the line on the table, and then the lines of each item.
-pub fn report_fit(
-    alloc: Global,
-    input: &Input<'_>,
-    items: &[FitItem],
-) -> Result<Vec<u8>, NoMemory>
+pub fn report_fit(alloc: Global, input: &Input<'_>, items: &[FitItem]) -> Result<Vec<u8>, NoMemory>
     requires { IsFitVerdict (input_of_table input.now.table.now) items.now Accepted }
     ensures { IfOk result (λ text. text.items
         ≡ fit_report_text input.now.table.now items.now) }

@@ -1,5 +1,4 @@
 use Rattle.std.proofs.Common.{◌≤◌, ◌^◌, subst}
-use Rattle.rp_fit.specs.Steps.{all_spent}
 use Rattle.rp_table.specs.Cost.{cost_of}
 use Rattle.rp_table.specs.Tables.{records_of}
 use Rattle.rp_fit_report.proofs.Spent.{cost_fits}
