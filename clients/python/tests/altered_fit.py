@@ -6,7 +6,7 @@ usage: altered_fit.py [COUNT] [--seed TEXT] [--with PROGRAM]
 Draws small tables (up to five observations), makes a true certificate of each by `fit_by_search`, which the checker has to accept,
 and alters it in one way, eight times: numbers, lists, members, items of another table, and changes that may leave it true. Each
 item of an accepted certificate has to be true by `fit_by_search`. Tells how many were accepted, and what was rejected why. With a
-program that has the commands, its own certificates are looked at and altered too, and `checkfit` has to say the same of each.
+program that has `checkfit`, that has to say the same of each. Where it has `fit` too, its own certificates are altered as well.
 """
 from __future__ import annotations
 
@@ -406,14 +406,16 @@ class Program:
         it = subprocess.run([self.name, *words], cwd=self.room, stdin=subprocess.DEVNULL, capture_output=True)
         return it.returncode, it.stdout, it.stderr
 
-    def is_there(self):
-        """Whether it has the commands: called without files it tells its usage, which then names them."""
-        return bool(self.name) and os.access(self.name, os.X_OK) and b" checkfit " in self.ran("checkfit")[2]
+    def has(self, command):
+        """Whether it has a command: called without files it prints its usage, which then names the command."""
+        return bool(self.name) and os.access(self.name, os.X_OK) and f" {command} ".encode() in self.ran(command)[2]
 
     def written(self, file):
-        """Returns the items of its certificate on a table, and what is wrong with that."""
+        """Returns the items of its certificate on a table, none where it makes no certificates, and what is wrong with that."""
         with open(f"{self.room}/t.csv", "wb") as it:
             it.write(file)
+        if not self.has("fit"):
+            return [], []
         status, out, err = self.ran("fit", "t.csv", "--json")
         return (json.loads(out)["items"], []) if status == 0 else ([], [f"fit ended with {status} on {file!r}: {err!r}"])
 
@@ -458,7 +460,7 @@ def main():
     said, wrong, tables, another = collections.Counter(), [], 0, None
     with tempfile.TemporaryDirectory() as room:
         program = Program(os.path.abspath(given.program), room) if given.program else None
-        if program and not program.is_there():
+        if program and not program.has("checkfit"):
             print("goodness of fit: the program has no command checkfit, so that the second checker is alone")
             program = None
         while sum(said.values()) < given.count:
