@@ -1,3 +1,4 @@
 pub mod FoundProves
+pub mod LightTypes
 pub mod Looks
 pub mod RoundLaws

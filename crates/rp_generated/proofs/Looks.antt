@@ -1,10 +1,9 @@
 -- What a search looks at: each step is a look at a patch after a beginning, and looks differ, since two of them differ in
 -- the patch of the budget at which they part, or in how many patches they have.
-use Rattle.std.proofs.lemmas.Bool.{cases_lt, false≢true, le-ltb}
-use Rattle.std.proofs.Common.{inl, inr, true, ltb, ◌⊎◌, ◌≡◌, ◌≢◌, ℕ, zero, suc, ◌+◌, ◌*◌, ◌<◌, ◌≤◌, List, [], ◌∷◌, ◌++◌, All, length, length-append, slice_index, slice_index_or, ap, refl, sym, subst, ◌∙◌, arith}
+use Rattle.std.proofs.lemmas.Bool.{cases_lt}
+use Rattle.std.proofs.Common.{inl, inr, ◌⊎◌, ◌≡◌, ◌≢◌, ℕ, zero, suc, ◌+◌, ◌*◌, ◌<◌, ◌≤◌, List, [], ◌∷◌, ◌++◌, All, length, length-append, slice_index, ap, refl, sym, subst, ◌∙◌, arith}
 use Rattle.std.specs.List.{AllPairs, insert}
-use Rattle.std.specs.Prelude.{⊤, IfOk, Result, Ok, Err, Vec}
-use Rattle.std.specs.declared.alloc.Global.{Global}
+use Rattle.std.specs.Prelude.{⊤, IfOk, Result, Ok, Err}
 use Rattle.std.proofs.lemmas.List.Sums.{sum_by-cons}
 use Rattle.rp_limits.specs.declared.generated.TheConstants.{STEPS}
 use Rattle.rp_patch.specs.PartialTypes.{Begins, IsPartialType, taken_in}
@@ -12,8 +11,8 @@ use Rattle.rp_patch.specs.Patches.{PatchList, budget_at}
 use Rattle.rp_patch.specs.declared.partial_type.PartialType.{PartialType}
 use Rattle.rp_patch.specs.Types.{IsRationalType}
 use Rattle.rp_patch.proofs.SearchLaws.{begins_at, begins_itself}
-use Rattle.rp_generated.specs.InnerLooks.{Apart, AreFirst, AreListedFrom, ArePatchesOn, Each, IsBefore, IsDecided, IsLookUnder, LookedBelow, LookedFrom, LookedUnder, NoneBegins, WereMadeIn}
-use Rattle.rp_generated.specs.Rounds.{HasEnded, HasNothingToShow, IsFirstProgram, ShowsNothing}
+use Rattle.rp_generated.specs.InnerLooks.{Apart, AreFirst, ArePatchesOn, Each, IsBefore, IsDecided, IsLookUnder, LookedBelow, LookedFrom, LookedUnder, NoneBegins, WereMadeIn}
+use Rattle.rp_generated.specs.Rounds.{HasEnded, HasNothingToShow, IsFirstProgram, ShowsNoWeights}
 use Rattle.rp_whole_tableau.specs.declared.grown.Grown.{Grown}
 use Rattle.rp_generated.specs.Steps.{AreSpent, HasFound, HasNoRationalType, IsLook, IsSearch, IsWithheldAfter, SomeHasFound}
 use Rattle.rp_generated.specs.declared.looked.Lightest.{Lightest}
@@ -242,7 +241,7 @@ plain_none p part n k from mid had kept within inside on is so_far made still co
 pub decided_next : (p : PatchList) (front : List ℕ) (i : ℕ) → ((h : ℕ) → h < i → NoneBegins p (front ++ h ∷ [])) → NoneBegins p (front ++ i ∷ []) → (h : ℕ) → h < i + 1 → NoneBegins p (front ++ h ∷ [])
 decided_next p front i so_far here h l = elim (cases_lt h i) [ inl before ↦ so_far h before | inr after ↦ (let same : i ≡ h = omega (arith, l, after) in subst (λ (g : ℕ). NoneBegins p (front ++ g ∷ [])) same here) ]
 
-begins_longer : (type front : List ℕ) → Begins type front → length front < length type → Begins type (front ++ slice_index type (length front) ∷ [])
+pub begins_longer : (type front : List ℕ) → Begins type front → length front < length type → Begins type (front ++ slice_index type (length front) ∷ [])
 begins_longer [] front h l = absurd (omega (arith, l))
 begins_longer (j ∷ type) [] h l = (refl, tt)
 begins_longer (j ∷ type) (i ∷ front) h l = (h.0, begins_longer type front h.1 (omega (arith, l)))
@@ -260,31 +259,6 @@ patch_added p j n at list are below inside on = record {
   on_budget = each_insert (λ i. budget_at p i ≡ j) at n list are.on_budget on;
   apart = apart_insert at n list are.apart (each_so (λ i. i < n) (λ i. i ≢ n) (λ i l e. absurd (omega (arith, l, e))) list below);
 }
-
-pub list_added : (p : PatchList) (j : ℕ) (lists : List (Vec ℕ Global)) (list : Vec ℕ Global) → AreListedFrom p j lists → ArePatchesOn p (j + length lists) list.items → AreListedFrom p j (lists ++ list ∷ [])
-list_added p j [] list are on = (subst (λ k. ArePatchesOn p k list.items) (omega arith) on, tt)
-list_added p j (first ∷ lists) list are on = (are.0, list_added p (suc j) lists list are.1 (subst (λ k. ArePatchesOn p k list.items) (omega arith) on))
-
-pub list_many : (lists : List (Vec ℕ Global)) (list : Vec ℕ Global) (j : ℕ) → length lists ≡ j → length (lists ++ list ∷ []) ≡ j + 1
-list_many lists list j e = let l = length_both lists (list ∷ []) in omega (arith, e, l)
-
-pub next_listed : (p : PatchList) (lists : List (Vec ℕ Global)) (list : Vec ℕ Global) → AreListedFrom p 0 lists → ArePatchesOn p (length lists) list.items → AreListedFrom p 0 (lists ++ list ∷ [])
-next_listed p lists list are on = list_added p 0 lists list are (subst (λ (k : ℕ). ArePatchesOn p k list.items) (omega arith) on)
-
-below_length : (b n : ℕ) → true ≡ ltb b n → b < n
-below_length b n e = elim (cases_lt b n) [ inl l ↦ l | inr l ↦ absurd (false≢true (sym (e ∙ le-ltb b n l))) ]
-
-listed_at : (p : PatchList) (j b : ℕ) (lists : List (Vec ℕ Global)) (d : Vec ℕ Global) → AreListedFrom p j lists → b < length lists → ArePatchesOn p (j + b) (slice_index_or lists b d).items
-listed_at p j b [] d are l = absurd (omega (arith, l))
-listed_at p j zero (list ∷ lists) d are l = subst (λ (k : ℕ). ArePatchesOn p k list.items) (omega arith) are.0
-listed_at p j (suc b) (list ∷ lists) d are l = subst (λ (k : ℕ). ArePatchesOn p k (slice_index_or lists b d).items) (omega arith) (listed_at p (suc j) b lists d are.1 (omega (arith, l)))
-
--- what is read from the lists
-pub listed_read : (p : PatchList) (b : ℕ) (lists seen : List (Vec ℕ Global)) (list : Vec ℕ Global) → seen ≡ lists → AreListedFrom p 0 lists → true ≡ ltb b (length seen) → list ≡ slice_index_or seen b list → ArePatchesOn p b list.items
-listed_read p b lists seen list same are inside read =
-    subst (λ (k : ℕ). ArePatchesOn p k list.items) (omega arith)
-    (subst (λ (l : Vec ℕ Global). ArePatchesOn p (0 + b) l.items) (sym read)
-    (listed_at p 0 b seen list (subst (λ (them : List (Vec ℕ Global)). AreListedFrom p 0 them) (sym same) are) (below_length b (length seen) inside)))
 
 -- ---- rounds
 
@@ -373,7 +347,7 @@ withheld_spent p rounds made few is spent = withheld p rounds made (SomeHasFound
 pub spent_first : (p : PatchList) (light : Lightest) → AreFirst p light → AreSpent light.steps → IsWithheldAfter p light.steps
 spent_first p light first spent = withheld p 2 light.steps _ first.made (omega arith) (inl spent)
 
-pub withheld_none : (p : PatchList) (light : Lightest) (g : Grown) → AreFirst p light → length light.types.items ≡ 0 → IsFirstProgram p g → ShowsNothing p light.steps g → IsWithheldAfter p light.steps
+pub withheld_none : (p : PatchList) (light : Lightest) (g : Grown) → AreFirst p light → length light.types.items ≡ 0 → IsFirstProgram p g → ShowsNoWeights p light.steps g → IsWithheldAfter p light.steps
 withheld_none p light g first none program nothing = withheld p 2 light.steps _ first.made (omega arith) (elim (first.decided none) [
   | inl spent ↦ inl spent
   | inr lacking ↦ inr (inl (record { none = lacking; program = g; first = program; nothing = nothing }))

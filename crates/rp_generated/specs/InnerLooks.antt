@@ -1,13 +1,11 @@
 -- How far a search has come: what it has looked at, so that each step that it counts is a look, and none is made twice.
-use Rattle.std.specs.Prelude.{◌≡◌, ◌≢◌, ◌+◌, ◌*◌, ◌<◌, ◌≤◌, ◌⊎◌, ◌++◌, ⊤, [], ◌∷◌, ℕ, suc, List, Vec, length, slice_index, sum_by}
-use Rattle.std.specs.declared.alloc.Global.{Global}
+use Rattle.std.specs.Prelude.{◌≡◌, ◌≢◌, ◌+◌, ◌*◌, ◌<◌, ◌≤◌, ◌⊎◌, ◌++◌, ⊤, [], ◌∷◌, ℕ, List, length, slice_index, sum_by}
 use Rattle.rp_limits.specs.declared.generated.TheConstants.{STEPS}
 use Rattle.rp_patch.specs.PartialTypes.{Begins}
 use Rattle.rp_patch.specs.Patches.{PatchList, budget_at}
 use Rattle.rp_patch.specs.Types.{IsRationalType}
 use Rattle.rp_generated.specs.Steps.{AreSpent, HasFound, HasNoRationalType, IsLook, IsSearch, SomeHasFound}
 use Rattle.rp_generated.specs.declared.looked.Lightest.{Lightest}
-use Rattle.rp_generated.specs.declared.prices.Prices.{Prices}
 
 -- each element of a list, from its beginning
 abbrev pub Each : {X : Type 0} → (X → Type 0) → List X → Type 0
@@ -24,14 +22,6 @@ pub record ArePatchesOn (p : PatchList) (j : ℕ) (list : List ℕ) : Type 0 whe
   pub inside : Each (λ i. i < length p.patches) list
   pub on_budget : Each (λ i. budget_at p i ≡ j) list
   pub apart : Apart list
-
--- the lists of the patches of each budget, from budget j on
-abbrev pub AreListedFrom : PatchList → ℕ → List (Vec ℕ Global) → Type 0
-AreListedFrom p j [] = ⊤
-AreListedFrom p j (list ∷ lists) = ArePatchesOn p j list.items × AreListedFrom p (suc j) lists
-
-abbrev pub AreListed : PatchList → Prices → Type 0
-AreListed p prices = AreListedFrom p 0 prices.on_budget.items
 
 -- a look for a type that begins with these patches, and no other look for this beginning alone
 abbrev pub IsLookUnder : PatchList → List ℕ → List ℕ → Type 0

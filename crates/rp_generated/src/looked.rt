@@ -38,6 +38,7 @@ impl Lightest {
         weight: u128,
     ) -> Result<(), NoMemory>
         ensures steps { self.new.steps ≡ self.old.steps }
+        ensures weight { IfOk result (λ _. self.new.weight ≡ weight) }
         ensures more { IfOk result (λ _.
             length self.new.types.items ≡ length self.old.types.items + 1) }
         ensures last { IfOk result (λ _. AddsLast numbers.now self.old.types.items self.new.types.items) }

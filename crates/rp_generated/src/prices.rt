@@ -1,9 +1,11 @@
 //! Prices of the patches, as a search over rational types asks for them.
-ghost use Rattle.std.specs.Prelude.{◌≤◌, IfOk, length};
-ghost use Rattle.rp_generated.specs.InnerLooks.{AreListed, ArePatchesOn};
+ghost use Rattle.std.specs.Prelude.{◌≡◌, ◌<◌, ◌≤◌, ◌*◌, ◌^◌, IfOk, IfSome, length, slice_index};
+ghost use Rattle.rp_generated.specs.InnerLight.{AreListed, AreOrdered, IsLeastFrom, IsLeastOf, IsPlaceOf};
+ghost use Rattle.rp_limits.specs.declared.table.TheConstants.{BUDGETS};
 ghost use Rattle.rp_patch.specs.Patches.{PatchList};
 
 use crate::compatible::PatchSet;
+use rp_limits::table::BUDGETS;
 use rp_num::NoMemory;
 use rp_patch::Patches;
 use std::alloc::Global;
@@ -17,7 +19,9 @@ pub(crate) struct Prices {
 }
 
 /// The price of a patch.
-fn price_at(prices: &[u64], i: u32) -> u64 {
+fn price_at(prices: &[u64], i: u32) -> u64
+    ensures { result ≡ slice_index prices.now i }
+{
     match prices.get(i as usize) {
         Some(price) => *price,
         None => 0,
@@ -26,7 +30,7 @@ fn price_at(prices: &[u64], i: u32) -> u64 {
 
 /// The place at which a patch is put, so that the list stays in order of the prices.
 fn place_of(prices: &[u64], list: &[u32], i: u32) -> usize
-    ensures { result ≤ length list.now }
+    ensures { IsPlaceOf prices.now list.now i result }
 {
     for k in 0..list.len() {
         if price_at(prices, list[k]) > price_at(prices, i) {
@@ -43,7 +47,8 @@ fn patches_on(
     prices: &[u64],
     j: u32,
 ) -> Result<Vec<u32>, NoMemory>
-    ensures { IfOk result (λ list. ArePatchesOn patches.now j list.items) }
+    ensures { IfOk result (λ list.
+        AreOrdered patches.now prices.now j (length patches.now.patches) list.items) }
 {
     let mut list = Vec::new(alloc);
     for i in 0..patches.count() {
@@ -62,7 +67,8 @@ impl Prices {
         patches: &Patches,
         prices: Vec<u64>,
     ) -> Result<Prices, NoMemory>
-        ensures { IfOk result (AreListed patches.now) }
+        ensures listed { IfOk result (AreListed patches.now) }
+        ensures prices { IfOk result (λ made. made.prices ≡ prices) }
     {
         let mut on_budget = Vec::new(alloc);
         for j in 0..patches.budgets() {
@@ -76,13 +82,17 @@ impl Prices {
     }
 
     /// The price of a patch.
-    pub(crate) fn of(&self, i: u32) -> u128 {
+    pub(crate) fn of(&self, i: u32) -> u128
+        ensures exact { result ≡ slice_index self.now.prices.items i }
+        ensures small { result < 2 ^ 64 }
+    {
         u128::from(price_at(self.prices.as_slice(), i))
     }
 
     /// The patches of a budget, the lightest first.
     pub(crate) fn on(&self, budget: u32) -> &[u32]
-        ensures { (p : PatchList) → AreListed p self.now → ArePatchesOn p budget result.now }
+        ensures { (p : PatchList) → AreListed p self.now → budget < p.budgets
+            → AreOrdered p self.now.prices.items budget (length p.patches) result.now }
     {
         match self.on_budget.get(budget as usize) {
             Some(list) => list.as_slice(),
@@ -91,21 +101,35 @@ impl Prices {
     }
 
     /// What the lightest patch of a budget in a set weighs; none where none is in it.
-    fn least_on(&self, budget: u32, set: &PatchSet) -> Option<u128> {
-        for i in self.on(budget) {
-            if set.has(*i) {
-                return Some(self.of(*i));
+    fn least_on(&self, budget: u32, set: &PatchSet) -> Option<u128>
+        ensures least { (p : PatchList) → AreListed p self.now → budget < p.budgets
+            → IsLeastOf p self.now.prices.items budget set.now.words result }
+        ensures small { IfSome result (λ least. least < 2 ^ 64) }
+    {
+        let list = self.on(budget);
+        for k in 0..list.len() {
+            if set.has(list[k]) {
+                return Some(self.of(list[k]));
             }
         }
         None
     }
 
-    /// What the lightest patches in a set of all budgets after this one weigh together; none where none is in it of one
-    /// of these budgets.
-    pub(crate) fn least_after(&self, budget: u32, set: &PatchSet) -> Option<u128> {
+    /// What the lightest patches in a set weigh together of all budgets from one on; none where none is in it of one of
+    /// these budgets.
+    pub(crate) fn least_from(&self, first: u32, set: &PatchSet) -> Option<u128>
+        requires few { self.now.budgets ≤ BUDGETS }
+        requires first { first ≤ self.now.budgets }
+        ensures least { (p : PatchList) → AreListed p self.now → first ≤ p.budgets
+            → IsLeastFrom p self.now.prices.items first set.now.words result }
+        ensures small { IfSome result (λ least. least ≤ BUDGETS * 2 ^ 64) }
+    {
         let mut least: u128 = 0;
-        for j in budget.wrapping_add(1)..self.budgets {
-            least = least.wrapping_add(self.least_on(j, set)?);
+        for j in first..self.budgets {
+            let Some(more) = self.least_on(j, set) else {
+                return None;
+            };
+            least += more;
         }
         Some(least)
     }

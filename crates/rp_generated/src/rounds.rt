@@ -1,11 +1,14 @@
 //! Rounds of the search: the program over the types so far is solved, and types that are light by its prices are added,
 //! until there is none, or a mixture of these types has the whole total.
-ghost use Rattle.std.specs.Prelude.{◌*◌, ◌≤◌, IfOk, IfSome, MatchOption, length};
-ghost use Rattle.rp_generated.specs.InnerLooks.{AreFirst, AreListed, LookedFrom, WereMadeIn};
-ghost use Rattle.rp_generated.specs.InnerRounds.{AddsFirst, EndsWith};
-ghost use Rattle.rp_generated.specs.Rounds.{AreTypes, HasGrown, IsFirstProgram, SomePriceIsWide};
+ghost use Rattle.std.specs.Prelude.{◌≡◌, ◌*◌, ◌≤◌, ◌<ℤ◌, ◌⊎◌, IfNone, IfOk, IfSome, MatchOption, length, pos};
+ghost use Rattle.rp_generated.specs.InnerLight.{AreCompatible, AreListed};
+ghost use Rattle.rp_generated.specs.InnerLooks.{AreFirst, LookedFrom, WereMadeIn};
+ghost use Rattle.rp_generated.specs.InnerRounds.{AddsFirst, EndsWith, FindsBy, HasPrices};
+ghost use Rattle.rp_generated.specs.Rounds.{AreLightTypes, AreTypes, HasGrown, IsFirstProgram, SomePriceIsWide};
 ghost use Rattle.rp_generated.specs.Steps.{SomeHasFound};
 ghost use Rattle.rp_patch.specs.Patches.{PatchList};
+ghost use Rattle.rp_whole_tableau.specs.Programs.{price_of};
+ghost use Rattle.rp_whole_tableau.specs.declared.grown.Grown.{Grown};
 ghost use Rattle.rp_limits.specs.declared.generated.TheConstants.{STEPS};
 
 use crate::compatible::Compatible;
@@ -43,16 +46,29 @@ fn first_program(alloc: Global, patches: &Patches) -> Result<Grown, NoMemory>
     Grown::of_sides(alloc, units.as_slice())
 }
 
+/// The price of a patch; none where it is negative or passes a word.
+fn word_price(program: &Grown, i: u32) -> Option<u64>
+    ensures price { IfSome result (λ price. pos price ≡ price_of program.now i) }
+    ensures wide { IfNone result ((price_of program.now i <ℤ pos 0)
+        ⊎ (pos 18446744073709551615 <ℤ price_of program.now i)) }
+{
+    match u64::try_from(program.price(i as usize)) {
+        Ok(price) => Some(price),
+        Err(_) => None,
+    }
+}
+
 /// The prices of the patches; none where one is negative or passes a word.
 fn prices_of(alloc: Global, patches: &Patches, program: &Grown) -> Result<Option<Prices>, NoMemory>
-    ensures { IfOk result (λ found.
-        MatchOption found (SomePriceIsWide patches.now program.now) (AreListed patches.now)) }
+    ensures { IfOk result (λ found. MatchOption found (SomePriceIsWide patches.now program.now)
+        (λ prices. AreListed patches.now prices
+        × HasPrices patches.now program.now prices.prices.items)) }
 {
     let mut prices = Vec::new(alloc);
     for i in 0..patches.count() {
-        match u64::try_from(program.price(i as usize)) {
-            Ok(price) => prices.push(price)?,
-            Err(_) => return Ok(None),
+        match word_price(program, i) {
+            Some(price) => prices.push(price)?,
+            None => return Ok(None),
         }
     }
     Ok(Some(Prices::make(alloc, patches, prices)?))
@@ -60,8 +76,8 @@ fn prices_of(alloc: Global, patches: &Patches, program: &Grown) -> Result<Option
 
 /// Adds types to the program.
 fn add_all(alloc: Global, program: &mut Grown, types: &[Vec<u32>]) -> Result<(), NoMemory>
-    ensures { IfOk result (λ _. (p : PatchList) → AreTypes p types.now
-        → AddsFirst p (length types.now) program.old program.new) }
+    ensures { IfOk result (λ _. (p : PatchList) (by : Grown) → AreLightTypes p by types.now
+        → AddsFirst p by (length types.now) program.old program.new) }
 {
     for k in 0..types.len() {
         program.add(alloc, types[k].as_slice())?;
@@ -77,10 +93,11 @@ fn found_by(
     program: &Grown,
     steps: u64,
 ) -> Result<Option<Lightest>, NoMemory>
-    requires { 2 * steps ≤ STEPS }
+    requires few { 2 * steps ≤ STEPS }
+    requires compatible { AreCompatible patches.now compatible.now }
     ensures looked { IfOk result (λ found. IfSome found (LookedFrom patches.now steps)) }
-    ensures types { IfOk result (λ found. MatchOption found (SomePriceIsWide patches.now program.now)
-        (λ light. AreTypes patches.now light.types.items)) }
+    ensures finds { IfOk result (λ found. MatchOption found (SomePriceIsWide patches.now program.now)
+        (FindsBy patches.now program.now)) }
 {
     let Some(prices) = prices_of(alloc, patches, program)? else {
         return Ok(None);
@@ -97,6 +114,7 @@ fn first_types(
     compatible: &Compatible,
     program: &Grown,
 ) -> Result<Lightest, NoMemory>
+    requires { AreCompatible patches.now compatible.now }
     ensures first { IfOk result (AreFirst patches.now) }
     ensures types { IfOk result (λ light. AreTypes patches.now light.types.items) }
 {
@@ -118,6 +136,7 @@ fn later_rounds(
     program: &mut Grown,
     first: u64,
 ) -> Result<Found, NoMemory>
+    requires compatible { AreCompatible patches.now compatible.now }
     requires made { WereMadeIn patches.now 2 first (SomeHasFound patches.now) }
     requires grown { HasGrown patches.now 0 program.old }
     ensures { IfOk result (λ found. EndsWith patches.now found.part found.steps) }

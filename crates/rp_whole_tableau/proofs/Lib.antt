@@ -1,4 +1,5 @@
 pub mod Entries
 pub mod FirstPrograms
 pub mod GrownPrograms
+pub mod ReadOffs
 pub mod WrittenOut

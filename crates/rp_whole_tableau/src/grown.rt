@@ -1,9 +1,9 @@
 //! A tableau that takes columns.
 ghost use Rattle.rp_whole_tableau.specs.Pivots.{number_at};
-ghost use Rattle.std.specs.Prelude.{◌≡◌, ◌<◌, ◌^◌, ℕ, pos, ◌+◌, ◌<ℤ◌, IfOk, MatchBool, MatchOption, length, true};
+ghost use Rattle.std.specs.Prelude.{◌≡◌, ◌<◌, ◌≤◌, ◌^◌, ℕ, pos, ◌+◌, ◌<ℤ◌, IfOk, MatchBool, MatchOption, length, true};
 ghost use Rattle.rp_whole_tableau.specs.InnerPivots.{IsLowerOf, IsLowestBelow};
 ghost use Rattle.rp_whole_tableau.specs.Programs.{AddsColumn, AreEntriesOf, ColumnPasses, HasSoMuch, IsEntering, IsFirst, IsFirstRow};
-ghost use Rattle.rp_whole_tableau.specs.Programs.{IsLeft, IsSolvedBy, Stops, Turns, price_of, width_of};
+ghost use Rattle.rp_whole_tableau.specs.Programs.{IsLeft, IsSolvedBy, Stops, Turns, price_of, rows_of, width_of};
 
 use crate::choice::leaving_row;
 use crate::run::MOST_PIVOTS;
@@ -102,17 +102,20 @@ impl Grown {
         Ok(())
     }
 
-    /// The rows of a column that was added, by its number.
-    pub fn column(&self, n: u32) -> Option<&[u32]> {
+    /// The rows of a column that was added, by its number; none past the last.
+    pub fn column(&self, n: u32) -> &[u32]
+        ensures { result.now ≡ rows_of self.now n }
+    {
         match self.columns.get(n as usize) {
-            Some(rows) => Some(rows.as_slice()),
-            None => None,
+            Some(rows) => rows.as_slice(),
+            None => &[],
         }
     }
 
     /// The last pivot, over which all numbers are.
     pub fn den(&self) -> u128
-        ensures { result ≡ self.now.tableau.den }
+        ensures exact { result ≡ self.now.tableau.den }
+        ensures some { 1 ≤ result }
     {
         self.tableau.den
     }

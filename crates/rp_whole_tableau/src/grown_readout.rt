@@ -1,8 +1,12 @@
 //! What is read off a tableau that took columns.
-ghost use Rattle.std.specs.Prelude.{◌≡◌, ◌<◌, ◌≤◌, IfNone, IfOk, IfSome, slice_index};
+ghost use Prim.Native.Nat.{◌∣◌};
+ghost use Rattle.std.specs.Prelude.{◌≡◌, ◌<◌, ◌≤◌, ◌+◌, ◌*◌, IfNone, IfOk, IfSome, MatchOption, slice_index};
+ghost use Rattle.std.specs.Int.RustNames.{unsigned_abs};
 ghost use Rattle.rp_farkas.specs.declared.listing.TheConstants.{EVIDENCE_WIDTH};
+ghost use Rattle.rp_whole_tableau.specs.InnerReadOff.{DividesPoint, DividesWith};
 ghost use Rattle.rp_whole_tableau.specs.Pivots.{entry_in};
-ghost use Rattle.rp_whole_tableau.specs.Programs.{NumberPasses, SomeSidePasses};
+ghost use Rattle.rp_whole_tableau.specs.Programs.{NumberPasses, SidePasses, SomeSidePasses, objective_of, width_of};
+ghost use Rattle.rp_whole_tableau.specs.ReadOff.{AreAmounts, HasNoAmount, IsAmount, IsPairOf, IsPointBy, IsPointOf};
 
 use crate::grown::Grown;
 use crate::readout::{prices, reduced};
@@ -11,26 +15,49 @@ use rp_num::{NoMemory, Seq, gcd};
 use std::alloc::Global;
 
 impl Grown {
-    /// The place of the column of row i among those that were added, and its right side; none for a slack.
-    fn basic(&self, i: usize) -> Option<(usize, i128)>
-        ensures { IfSome result (λ found.
-            (found.0 ≤ slice_index self.now.tableau.basis.items i)
-            × (found.1 ≡ entry_in self.now.tableau.rows.items i 0)) }
+    /// The place of the column of row i among those that were added; none for a slack.
+    fn added(&self, i: usize) -> Option<usize>
+        requires { i < objective_of self.now.tableau }
+        ensures added { IfSome result (λ n.
+            slice_index self.now.tableau.basis.items i ≡ width_of self.now.tableau + n) }
+        ensures slack { IfNone result
+            (slice_index self.now.tableau.basis.items i < width_of self.now.tableau) }
     {
-        let column = *self.tableau.basis.get(i)?;
-        let added = column.checked_sub(self.tableau.width())?;
-        Some((added, self.tableau.entry(i, 0)))
+        self.tableau.basis[i].checked_sub(self.tableau.width())
+    }
+
+    /// The greatest common divisor of a number and an entry.
+    fn divisor_with(&self, common: u128, i: usize, j: usize) -> u128
+        requires { 1 ≤ common }
+        ensures some { 1 ≤ result }
+        ensures divides { result ∣ common }
+        ensures entry { result ∣ unsigned_abs (entry_in self.now.tableau.rows.items i j) }
+    {
+        gcd(common, self.tableau.entry(i, j).unsigned_abs())
+    }
+
+    /// The greatest common divisor of a number and of how much there is of the column of row i.
+    fn divisor_with_amount(&self, common: u128, i: usize) -> u128
+        requires some { 1 ≤ common }
+        requires row { i < objective_of self.now.tableau }
+        ensures some { 1 ≤ result }
+        ensures divides { result ∣ common }
+        ensures amount { width_of self.now.tableau ≤ slice_index self.now.tableau.basis.items i
+            → result ∣ unsigned_abs (entry_in self.now.tableau.rows.items i 0) }
+    {
+        match self.added(i) {
+            Some(_) => self.divisor_with(common, i, 0),
+            None => common,
+        }
     }
 
     /// The greatest common divisor of the denominator and of how much there is of each column.
     fn divisor_of_point(&self) -> u128
-        ensures { 1 ≤ result }
+        ensures { DividesPoint self.now.tableau result }
     {
         let mut common = self.tableau.den;
         for i in 0..self.tableau.basis.len() {
-            if let Some((_, side)) = self.basic(i) {
-                common = gcd(common, side.unsigned_abs());
-            }
+            common = self.divisor_with_amount(common, i);
         }
         common
     }
@@ -38,19 +65,21 @@ impl Grown {
     /// The greatest common divisor of a number and the prices.
     fn divisor_with_prices(&self, common: u128) -> u128
         requires { 1 ≤ common }
-        ensures { 1 ≤ result }
+        ensures { DividesWith self.now.tableau common (objective_of self.now.tableau) result }
     {
         let objective = self.tableau.basis.len();
-        let mut common = common;
-        for j in 1..self.tableau.width() {
-            common = gcd(common, self.tableau.entry(objective, j).unsigned_abs());
+        let mut divisor = common;
+        for row in 0..objective {
+            divisor = self.divisor_with(divisor, objective, row + 1);
         }
-        common
+        divisor
     }
 
     /// The denominator by a common divisor; none where that passes the width of evidence.
     fn den_by(&self, common: u128) -> Option<u64>
-        ensures { 1 ≤ common → IfNone result (EVIDENCE_WIDTH < self.now.tableau.den) }
+        ensures wide { 1 ≤ common → IfNone result (EVIDENCE_WIDTH < self.now.tableau.den) }
+        ensures exact { IfSome result (λ den.
+            common ∣ self.now.tableau.den → den * common ≡ self.now.tableau.den) }
     {
         if common == 0 || self.tableau.den / common > u128::from(EVIDENCE_WIDTH) {
             return None;
@@ -58,22 +87,43 @@ impl Grown {
         Some((self.tableau.den / common) as u64)
     }
 
+    /// How much there is of the column of row i, by a common divisor: `Some(None)` for a slack, and where there is nothing
+    /// of it; none where a number passes the width of evidence.
+    fn amount(&self, i: usize, common: u128) -> Option<Option<Entry>>
+        requires divides { DividesPoint self.now.tableau common }
+        requires row { i < objective_of self.now.tableau }
+        ensures { MatchOption result (SidePasses self.now.tableau i) (λ found.
+            MatchOption found (HasNoAmount self.now.tableau i)
+            (IsAmount self.now.tableau common i)) }
+    {
+        let Some(added) = self.added(i) else {
+            return Some(None);
+        };
+        let Ok(at) = u32::try_from(added) else {
+            return None;
+        };
+        let Some(value) = reduced(self.tableau.entry(i, 0), common) else {
+            return None;
+        };
+        if value == 0 {
+            return Some(None);
+        }
+        Some(Some(Entry { at, value }))
+    }
+
     /// How much there is of each column of which there is some, by a common divisor.
     fn entries_by(&self, alloc: Global, common: u128) -> Result<Option<Vec<Entry>>, NoMemory>
-        ensures { 1 ≤ common → IfOk result (λ found. IfNone found (SomeSidePasses self.now.tableau)) }
+        requires { DividesPoint self.now.tableau common }
+        ensures { IfOk result (λ found. MatchOption found (SomeSidePasses self.now.tableau) (λ entries.
+            AreAmounts self.now.tableau common (objective_of self.now.tableau) entries.items)) }
     {
         let mut entries = Vec::new(alloc);
         for i in 0..self.tableau.basis.len() {
-            if let Some((added, side)) = self.basic(i) {
-                let Ok(at) = u32::try_from(added) else {
-                    return Ok(None);
-                };
-                let Some(value) = reduced(side, common) else {
-                    return Ok(None);
-                };
-                if value > 0 {
-                    entries.push(Entry { at, value })?;
-                }
+            let Some(found) = self.amount(i, common) else {
+                return Ok(None);
+            };
+            if let Some(entry) = found {
+                entries.push(entry)?;
             }
         }
         Ok(Some(entries))
@@ -86,8 +136,9 @@ impl Grown {
         common: u128,
         prices: Vec<u64>,
     ) -> Result<Option<Pair>, NoMemory>
-        requires { 1 ≤ common }
-        ensures { IfOk result (λ found. IfNone found (NumberPasses self.now)) }
+        requires { DividesPoint self.now.tableau common }
+        ensures { IfOk result (λ found. MatchOption found (NumberPasses self.now) (λ pair.
+            IsPointBy self.now common pair.den pair.y × (pair.x ≡ prices.items))) }
     {
         let Some(den) = self.den_by(common) else {
             return Ok(None);
@@ -104,14 +155,14 @@ impl Grown {
 
     /// The point in lowest terms and no prices; none where a number passes the width of evidence.
     pub fn point(&self, alloc: Global) -> Result<Option<Pair>, NoMemory>
-        ensures { IfOk result (λ found. IfNone found (NumberPasses self.now)) }
+        ensures { IfOk result (λ found. MatchOption found (NumberPasses self.now) (IsPointOf self.now)) }
     {
         self.pair_by(alloc, self.divisor_of_point(), Vec::new(alloc))
     }
 
     /// The point and the prices of the rows in lowest terms; none where a number passes the width of evidence.
     pub fn pair(&self, alloc: Global) -> Result<Option<Pair>, NoMemory>
-        ensures { IfOk result (λ found. IfNone found (NumberPasses self.now)) }
+        ensures { IfOk result (λ found. MatchOption found (NumberPasses self.now) (IsPairOf self.now)) }
     {
         let common = self.divisor_with_prices(self.divisor_of_point());
         match prices(alloc, &self.tableau, common)? {

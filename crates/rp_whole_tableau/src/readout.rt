@@ -1,6 +1,9 @@
 //! What is read off the last tableau.
-ghost use Rattle.std.specs.Prelude.{◌≤◌, IfNone, IfOk};
-ghost use Rattle.rp_whole_tableau.specs.Programs.{IsTooWide, PricePasses};
+ghost use Prim.Native.Nat.{◌∣◌};
+ghost use Rattle.std.specs.Prelude.{◌≡◌, ◌≤◌, ◌*◌, IfNone, IfOk, IfSome, pos};
+ghost use Rattle.std.specs.Int.RustNames.{unsigned_abs};
+ghost use Rattle.rp_whole_tableau.specs.InnerReadOff.{ArePricesIn, DividesPrices};
+ghost use Rattle.rp_whole_tableau.specs.Programs.{IsTooWide, PricePasses, objective_of};
 
 use crate::tableau::Tableau;
 use rp_farkas::{EVIDENCE_WIDTH, Entry, Pair};
@@ -9,7 +12,9 @@ use std::alloc::Global;
 
 /// A number divided by the common divisor, where it is not negative and within the width of evidence.
 pub fn reduced(n: i128, common: u128) -> Option<u64>
-    ensures { 1 ≤ common → IfNone result (IsTooWide n) }
+    ensures wide { 1 ≤ common → IfNone result (IsTooWide n) }
+    ensures exact { IfSome result (λ part.
+        common ∣ unsigned_abs n → pos (part * common) ≡ n) }
 {
     if n < 0 || common == 0 {
         return None;
@@ -49,7 +54,10 @@ fn common_divisor(t: &Tableau) -> u128 {
 
 /// The prices: the slack entries of the objective row.
 pub fn prices(alloc: Global, t: &Tableau, common: u128) -> Result<Option<Vec<u64>>, NoMemory>
-    ensures { 1 ≤ common → IfOk result (λ found. IfNone found (PricePasses t.now)) }
+    ensures wide { 1 ≤ common → IfOk result (λ found. IfNone found (PricePasses t.now)) }
+    ensures exact { IfOk result (λ found. IfSome found (λ prices.
+        DividesPrices t.now (objective_of t.now) common
+        → ArePricesIn t.now common prices.items)) }
 {
     let objective = t.basis.len();
     let mut prices = Vec::new(alloc);

@@ -1,8 +1,10 @@
 use Rattle.std.proofs.Common.{◌<◌, IfSome, MatchOption, Option, arith, inl, length, rules, subst}
-use Rattle.rp_generated.specs.Rounds.{AreTypes, SomePriceIsWide}
+use Rattle.rp_generated.specs.InnerRounds.{FindsBy}
+use Rattle.rp_generated.specs.Rounds.{SomePriceIsWide}
 use Rattle.rp_generated.specs.InnerLooks.{LookedFrom}
 use Rattle.rp_generated.specs.declared.looked.Lightest.{Lightest}
 use Rattle.rp_generated.proofs.Looks.{one_search, plain_after, plain_alone}
+use Rattle.rp_generated.proofs.RoundLaws.{only_types}
 use Rattle.rp_generated.proofs.rounds.first_types.Goals as goal
 use Rattle.rp_generated.proofs.rounds.first_types.Goals.{then-is_given_up-via-then-is_given_up, then-is_given_up-via-else-is_given_up+then-not-is_empty}
 
@@ -30,4 +32,5 @@ returns-clause-first c =
 
 pub returns-then-is_given_up-clause-types : goal.returns-then-is_given_up-clause-types
 returns-then-is_given_up-clause-types c =
-    subst (λ (found : Option Lightest). MatchOption found (SomePriceIsWide c.args.patches.now c.args.program.now) (λ light. AreTypes c.args.patches.now light.types.items)) c.in-Some.is c.in_ok-light.ensures.types
+    only_types c.args.patches.now c.args.program.now c.in-Some.light.types.items
+    (subst (λ (found : Option Lightest). MatchOption found (SomePriceIsWide c.args.patches.now c.args.program.now) (FindsBy c.args.patches.now c.args.program.now)) c.in-Some.is c.in_ok-light.ensures.finds).light

@@ -1,12 +1,13 @@
-use Rattle.std.proofs.Common.{◌≡◌, ◌<◌, ◌+◌, ℕ, IfSome, Option, arith, length, rules, subst}
+use Rattle.std.proofs.Common.{inl, inr, ◌≡◌, ◌<◌, ◌+◌, ℕ, IfSome, Option, arith, length, rules, subst}
 use Rattle.std.specs.Prelude.{MatchBool, MatchOption}
 use Rattle.rp_generated.specs.InnerLooks.{LookedFrom, WereMadeIn}
-use Rattle.rp_generated.specs.Rounds.{AreTypes, SomePriceIsWide}
+use Rattle.rp_generated.specs.InnerRounds.{FindsBy}
+use Rattle.rp_generated.specs.Rounds.{HasNoLightType, SomePriceIsWide}
 use Rattle.rp_generated.specs.Steps.{SomeHasFound}
 use Rattle.rp_generated.specs.declared.looked.Lightest.{Lightest}
 use Rattle.rp_generated.proofs.Looks.{round_made, withheld_spent}
-use Rattle.rp_generated.proofs.RoundLaws.{adds_seen, ended_by_evidence, ended_by_pivots, ended_by_price, ended_by_rounds, ends, next_grown}
-use Rattle.rp_whole_tableau.specs.Programs.{IsLeft, IsSolvedBy}
+use Rattle.rp_generated.proofs.RoundLaws.{adds_seen, ended_by_mixture, ended_by_pivots, ended_by_price, ended_by_rounds, ended_by_weights, mixture_ends, next_grown, weights_end}
+use Rattle.rp_whole_tableau.specs.Programs.{HasSoMuch, IsLeft, IsSolvedBy}
 use Rattle.rp_generated.proofs.rounds.later_rounds.Goals as goal
 
 pub returns-then-not-branch : goal.returns-then-not-branch
@@ -29,8 +30,9 @@ returns-then-has c =
     let solves = subst (λ (much : ℕ). MatchBool well (IsSolvedBy much before c.solve.new.self) (IsLeft before)) c.total.ensures c.in_ok-solve.ensures in
     let made = c.loop-round.invariant.made in
     let grown = c.loop-round.invariant.grown in
-    ends p c.loop-round.steps c.solve.new.self c.in_ok-part.part c.in_ok-part.ensures
-    (ended_by_evidence p (round + 2) c.loop-round.steps round before (omega (arith, c.loop-round-test.true)) made grown (omega (arith, c.loop-round-test.true)) _ c.solve.new.self well c.if-not-branch.false solves)
+    let whole : HasSoMuch c.solve.new.self p.total = search rules in
+    mixture_ends p c.loop-round.steps c.solve.new.self c.in_ok-part.part c.in_ok-part.ensures
+    (ended_by_mixture p (round + 2) c.loop-round.steps round before (omega (arith, c.loop-round-test.true)) made grown (omega (arith, c.loop-round-test.true)) _ c.solve.new.self well c.if-not-branch.false solves whole)
 
 pub returns-in_default : goal.returns-in_default
 returns-in_default c =
@@ -70,8 +72,12 @@ returns-then-is_empty c =
     let light = c.in-Some.light in
     let under = subst (λ (found : Option Lightest). IfSome found (LookedFrom p c.loop-round.steps)) c.in-Some.is c.in_ok-light.ensures.looked in
     let later = round_made p (round + 2) c.loop-round.steps light.steps (length light.types.items) made under light.few in
-    ends p light.steps c.solve.new.self c.in_ok-part-2.part c.in_ok-part-2.ensures
-    (ended_by_evidence p (round + 2 + 1) light.steps round before (omega (arith, c.loop-round-test.true)) later grown (omega (arith, c.loop-round-test.true)) _ c.solve.new.self well c.if-not-branch.false solves)
+    let finds = subst (λ (found : Option Lightest). MatchOption found (SomePriceIsWide p c.solve.new.self) (FindsBy p c.solve.new.self)) c.in-Some.is c.in_ok-light.ensures.finds in
+    let lacking : length light.types.items ≡ 0 = search rules in
+    let left = c.is_given_up.ensures.left c.if-is_given_up.false in
+    let none : HasNoLightType p c.solve.new.self = elim (finds.none lacking) [ inl spent ↦ absurd (omega (arith, spent, left)) | inr none ↦ none ] in
+    weights_end p light.steps c.solve.new.self c.in_ok-part-2.part c.in_ok-part-2.ensures
+    (ended_by_weights p (round + 2 + 1) light.steps round before (omega (arith, c.loop-round-test.true)) later grown (omega (arith, c.loop-round-test.true)) _ c.solve.new.self well c.if-not-branch.false solves none)
 
 pub loop-round-preserved : goal.loop-round-preserved
 loop-round-preserved c =
@@ -85,12 +91,12 @@ loop-round-preserved c =
     let light = c.in-Some.light in
     let under = subst (λ (found : Option Lightest). IfSome found (LookedFrom p c.loop-round.steps)) c.in-Some.is c.in_ok-light.ensures.looked in
     let later = round_made p (round + 2) c.loop-round.steps light.steps (length light.types.items) made under light.few in
-    let types = subst (λ (found : Option Lightest). MatchOption found (SomePriceIsWide p c.solve.new.self) (λ light. AreTypes p light.types.items)) c.in-Some.is c.in_ok-light.ensures.types in
+    let finds = subst (λ (found : Option Lightest). MatchOption found (SomePriceIsWide p c.solve.new.self) (FindsBy p c.solve.new.self)) c.in-Some.is c.in_ok-light.ensures.finds in
     let some : 0 < length light.types.items = search rules in
     record {
       made = subst (λ (n : ℕ). WereMadeIn p n light.steps (SomeHasFound p)) (omega arith) later;
       grown = next_grown _ p round (length light.types.items) before c.solve.new.self c.add_all.new.program well grown c.if-not-branch.false solves some
-          (adds_seen p light.types.items c.as_slice.result.now c.solve.new.self c.add_all.new.program c.as_slice.ensures.value c.in_ok-add_all.ensures types);
+          (adds_seen p light.types.items c.as_slice.result.now c.solve.new.self c.add_all.new.program c.as_slice.ensures.value c.in_ok-add_all.ensures finds.light);
     }
 
 pub returns : goal.returns

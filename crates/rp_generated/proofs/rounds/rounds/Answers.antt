@@ -1,6 +1,6 @@
 use Rattle.std.proofs.Common.{◌≡◌, ◌<◌, length, rules}
 use Rattle.rp_generated.proofs.Looks.{withheld_none}
-use Rattle.rp_generated.proofs.RoundLaws.{adds_seen, ends, first_grown}
+use Rattle.rp_generated.proofs.RoundLaws.{adds_seen, all_first_light, first_grown, weights_end}
 use Rattle.rp_generated.proofs.rounds.rounds.Goals as goal
 
 pub returns-then-is_empty : goal.returns-then-is_empty
@@ -8,7 +8,7 @@ returns-then-is_empty c =
     let p = c.args.patches.now in
     let light = c.in_ok-light.light in
     let none : length light.types.items ≡ 0 = search rules in
-    ends p light.steps c.in_ok-program.program c.in_ok-part.part c.in_ok-part.ensures
+    weights_end p light.steps c.in_ok-program.program c.in_ok-part.part c.in_ok-part.ensures
     (λ nothing. withheld_none p light c.in_ok-program.program c.in_ok-light.ensures.first none c.in_ok-program.ensures nothing)
 
 pub later_rounds-requires-clause-grown : goal.later_rounds-requires-clause-grown
@@ -17,4 +17,4 @@ later_rounds-requires-clause-grown c =
     let light = c.in_ok-light.light in
     let some : 0 < length light.types.items = search rules in
     first_grown p (length light.types.items) c.in_ok-program.program c.add_all.new.program c.in_ok-program.ensures some
-    (adds_seen p light.types.items c.as_slice.result.now c.in_ok-program.program c.add_all.new.program c.as_slice.ensures.value c.in_ok-add_all.ensures c.in_ok-light.ensures.types)
+    (adds_seen p light.types.items c.as_slice.result.now c.in_ok-program.program c.add_all.new.program c.as_slice.ensures.value c.in_ok-add_all.ensures (all_first_light p c.in_ok-program.program light.types.items c.in_ok-program.ensures c.in_ok-light.ensures.types))
