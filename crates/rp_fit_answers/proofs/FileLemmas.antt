@@ -13,11 +13,11 @@ use Rattle.rp_front.specs.declared.answer.Cause.TheVariants.{Read, Refused, NoMe
 use Rattle.rp_limits.specs.declared.run.TheConstants.{MOST_BYTES, MOST_CERTIFICATE_BYTES}
 use Rattle.rp_outside.specs.Known.{AreAll, AreMoreThan}
 use Rattle.rp_table.specs.Tables.{Observations}
-use Rattle.rp_fit_answers.specs.Contents.{CertificateIn, ContentsIn, TableAndCertificate}
+use Rattle.rp_fit_answers.specs.Contents.{CertificateIn, ContentsIn, Table, TableAndCertificate}
 use Rattle.rp_fit_answers.specs.GoodnessOfFit.{goodness_of_fit}
 use Rattle.rp_fit_answers.specs.InnerCauses.{HoldsValue, IsFileCause, IsReadingCause, IsRefusal}
 use Rattle.rp_fit_answers.specs.InnerLoadings.{HasContents}
-use Rattle.rp_fit_answers.specs.Questions.{CheckFit}
+use Rattle.rp_fit_answers.specs.Questions.{CheckFit, Fit}
 use Rattle.rp_fit_answers.proofs.Laws.{begins_unrefused}
 
 -- some content of a file, and some that is too long where no shorter one is known
@@ -64,6 +64,32 @@ moved_cause files later rose since file reading NoMemory same up none = tt
 pub moved_value : {A : Type 0} (files later : Files) (file : List ℕ) (reading : List ℕ → Reading A) (value : A)
     → later file ≡ files file → HoldsValue later file reading value → HoldsValue files file reading value
 moved_value files later file reading value same (bytes, content, read) = (bytes, (λ known is. content known (same ∙ is)), read)
+
+-- ---- the indices of a table
+
+module _ (files : Files) (name : List ℕ) (json : Bool) where
+  held_one : (bytes : List ℕ) → AreAll (files name) bytes → AreContents goodness_of_fit files (Fit name json) (λ k. bytes)
+  held_one bytes held zero within = held
+  held_one bytes held (suc k) within = absurd (omega (arith, within))
+
+  pub one_contents : (table : Observations) → HoldsValue files name (TakenTable false name) table → HasContents files (Fit name json) (Table table)
+  one_contents table (bytes, held, read) = ((λ k. bytes), held_one bytes held, (table, read, refl))
+
+  pub one_cause : (rose : List ℕ → Type 0) (asks : ℕ → Type 0) (why : Cause) → asks 1 → IsFileCause files rose name (TakenTable false name) why → IsCause goodness_of_fit files rose asks (Fit name json) why
+  one_cause rose asks (Read file) once (is, risen) = (
+    0,
+    record {
+      within = omega arith;
+      risen = risen;
+      after_those = ((λ k. []), (λ k within. absurd (omega (arith, within))), λ line refused. begins_unrefused (Fit name json) (first_of (λ k. []) 0) line refl refused);
+      none_after = once;
+    },
+    is,
+  )
+  one_cause rose asks (Refused line) once (bytes, held, refused) = ((λ k. bytes), held_one bytes held, inl refused)
+  one_cause rose asks NoMemory once none = tt
+
+-- ---- the check of a certificate on a table
 
 abbrev two : List ℕ → List ℕ → ℕ → List ℕ
 two first second zero = first

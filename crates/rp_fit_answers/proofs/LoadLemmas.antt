@@ -17,11 +17,11 @@ use Rattle.rp_front.proofs.TurnLemmas.{asks_one, asks_two, first_asked, first_tu
 use Rattle.rp_limits.specs.declared.run.TheConstants.{MOST_BYTES, MOST_CERTIFICATE_BYTES}
 use Rattle.rp_table.specs.Tables.{Observations}
 use Rattle.rp_fit_answers.specs.Answers.{AnswersHeld}
-use Rattle.rp_fit_answers.specs.Contents.{CertificateIn, Held, TableAndCertificate}
+use Rattle.rp_fit_answers.specs.Contents.{CertificateIn, Held, Table, TableAndCertificate}
 use Rattle.rp_fit_answers.specs.GoodnessOfFit.{goodness_of_fit}
 use Rattle.rp_fit_answers.specs.InnerLoadings.{HasContents, LoadsAsked, LoadsFile}
-use Rattle.rp_fit_answers.specs.Questions.{CheckFit, Question}
-use Rattle.rp_fit_answers.proofs.FileLemmas.{first_cause, moved_cause, moved_value, second_cause, taken, two_contents}
+use Rattle.rp_fit_answers.specs.Questions.{CheckFit, Fit, Question}
+use Rattle.rp_fit_answers.proofs.FileLemmas.{first_cause, moved_cause, moved_value, one_cause, one_contents, second_cause, taken, two_contents}
 use Rattle.rp_fit_answers.proofs.Laws.{begins_unrefused}
 
 -- the calls for a file, for files of the same contents
@@ -29,6 +29,28 @@ calls_later : (files later : Files) (file : List ℕ) (limit before after : ℕ)
 calls_later files later file limit before after same most = subst (λ known. after ≤ before + calls_through limit known) same most
 
 module _ {D : Type 0} {bytes : D → Files} {faults : D → List ℕ → ℕ} {calls : D → ℕ} {asked : D → Option Reads} where
+  -- ---- one file
+  module _ (old new : D) (name : List ℕ) (json : Bool) where
+    pub one_loads : (r : Result Observations Cause) → LoadsFile bytes faults calls asked old new MOST_BYTES name (TakenTable false name) r
+        → LoadsAsked bytes faults calls asked old new (Fit name json) (λ held. HasContents (bytes old) (Fit name json) (Table held)) r
+    one_loads (Ok table) loads = record {
+      held = one_contents (bytes old) name json table loads.loaded;
+      caused = tt;
+      in_turn = first_turn goodness_of_fit begins_unrefused (bytes old) (Fit name json) (calls_through MOST_BYTES (bytes old name)) [] refl _ _ 0 refl loads.read_through;
+      by_name = first_asked goodness_of_fit begins_unrefused (bytes old) (Fit name json) name [] _ _ refl loads.asks_at_most_once;
+      bytes_stay = loads.bytes_stay;
+      never_falls = loads.never_falls;
+    }
+    one_loads (Err why) loads = record {
+      held = tt;
+      caused = one_cause (bytes old) name json (Rose (faults old) (faults new)) (AsksForFirst goodness_of_fit (bytes old) (calls old) (calls new) (Fit name json)) why
+          (asks_one goodness_of_fit begins_unrefused (bytes old) (Fit name json) (calls_through MOST_BYTES (bytes old name)) [] refl _ _ loads.read_through) loads.loaded;
+      in_turn = first_turn goodness_of_fit begins_unrefused (bytes old) (Fit name json) (calls_through MOST_BYTES (bytes old name)) [] refl _ _ 0 refl loads.read_through;
+      by_name = first_asked goodness_of_fit begins_unrefused (bytes old) (Fit name json) name [] _ _ refl loads.asks_at_most_once;
+      bytes_stay = loads.bytes_stay;
+      never_falls = loads.never_falls;
+    }
+
   -- ---- two files
   module _ {A : Type 0} (holds : A → Type 0) (name file : List ℕ) where
     pub two_first_none : (old new : D) (why : Cause) → LoadsFile {A = Observations} bytes faults calls asked old new MOST_BYTES name (TakenTable false name) (Err why)

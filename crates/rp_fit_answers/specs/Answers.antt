@@ -1,10 +1,13 @@
--- What the program answers to what the files hold (this program's own).
+-- What the two commands answer to what their files hold (this program's own).
 use Rattle.std.specs.Prelude.{ℕ, List}
 use Rattle.rp_front.specs.declared.status.Status.{Status}
 use Rattle.rp_fit_answers.specs.CheckText.{IsFitCheck}
-use Rattle.rp_fit_answers.specs.Contents.{Held, TableAndCertificate}
-use Rattle.rp_fit_answers.specs.Questions.{CheckFit, Question}
+use Rattle.rp_fit_answers.specs.Contents.{Held, Table, TableAndCertificate}
+use Rattle.rp_fit_answers.specs.IndicesText.{IsIndicesText}
+use Rattle.rp_fit_answers.specs.Questions.{CheckFit, Fit, Question}
 
 -- the status and the text that answer a question
 abbrev pub AnswersHeld : Question → Held → Status → List ℕ → Type 0
+AnswersHeld (Fit name json) (Table table) s text = IsIndicesText json table s text
 AnswersHeld (CheckFit name file) (TableAndCertificate table items) s text = IsFitCheck table items s text
+AnswersHeld _ _ s text = ⊥

@@ -10,10 +10,11 @@ use Rattle.rp_json.specs.declared.fault.JsonFault.TheVariants as json_fault
 use Rattle.rp_json_fit.specs.FitDenoted.{IsFitDenoted}
 use Rattle.rp_limits.specs.declared.run.TheConstants.{MOST_CERTIFICATE_BYTES}
 use Rattle.rp_table.specs.Tables.{Observations}
-use Rattle.rp_fit_answers.specs.Questions.{CheckFit, Question}
+use Rattle.rp_fit_answers.specs.Questions.{CheckFit, Fit, Question}
 
 -- a table without levels of its observations' own, and beside it the items of a certificate on goodness of fit
 pub data Held : Type 0 where
+  Table : (table : Observations) → Held
   TableAndCertificate : (table : Observations) (items : List FitItem) → Held
 
 -- the certificate that the bytes of its file denote, where they are not too many; or the line of the first fault of bytes
@@ -29,6 +30,8 @@ CertificateIn file bytes (Err line) =
 -- what the files hold, from the bytes of the k-th of them for each k from 0, as far as they are known. Where a file is
 -- not, nothing is held but what is refused before it
 abbrev pub ContentsIn : Question → (ℕ → Option (List ℕ)) → Reading Held
+ContentsIn (Fit table json) known =
+    AndThen (WhereKnown (TakenTable false table) (known 0)) (λ t. Just (Ok (Table t)))
 ContentsIn (CheckFit table certificate) known =
     AndThen (WhereKnown (TakenTable false table) (known 0)) (λ t.
     AndThen (WhereKnown (CertificateIn certificate) (known 1)) (λ items. Just (Ok (TableAndCertificate t items))))

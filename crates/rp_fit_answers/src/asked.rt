@@ -1,12 +1,21 @@
-//! What the words of the program ask.
-ghost use Rattle.std.specs.Prelude.{◌≡◌, map, option_map, string_bytes};
-ghost use Rattle.rp_fit_answers.specs.Questions.{asked_in, check_of, is_file_name, question_of};
+//! What the words of the two commands ask.
+ghost use Rattle.std.specs.Prelude.{◌≡◌, ◌∷◌, [], map, option_map, string_bytes};
+ghost use Rattle.rp_fit_answers.specs.Questions.{asked_in, check_of, is_file_name, json_of, question_of};
+ghost use Rattle.rp_fit_answers.specs.Questions.{report_of};
 
-/// What words ask: the check of a certificate on a table. Both files are named.
+/// What words ask, with the names of files. A certificate is written where `json` is asked, and else a report.
 #[derive(Drop)]
-pub struct Asked<'w> {
-    pub table: &'w str,
-    pub certificate: &'w str,
+pub enum Asked<'w> {
+    /// The indices of goodness of fit of a table, with their evidence.
+    Fit {
+        table: &'w str,
+        json: bool,
+    },
+    /// The checker's verdict on a certificate on goodness of fit of a table.
+    CheckFit {
+        table: &'w str,
+        certificate: &'w str,
+    },
 }
 
 /// What words ask, the program's name first.
@@ -14,9 +23,18 @@ pub fn asked_by<'w>(words: &'w [String]) -> Option<Asked<'w>>
     ensures { option_map question_of result ≡ asked_in (map string_bytes words.now) }
 {
     match words {
-        [_, command, table, certificate] => {
-            if command.as_str() == "checkfit" {
-                check_of(table.as_str(), certificate.as_str())
+        [_, command, table] => {
+            if command.as_str() == "fit" {
+                report_of(table.as_str())
+            } else {
+                None
+            }
+        }
+        [_, command, first, second] => {
+            if command.as_str() == "fit" {
+                json_of(first.as_str(), second.as_str())
+            } else if command.as_str() == "checkfit" {
+                check_of(first.as_str(), second.as_str())
             } else {
                 None
             }
@@ -25,12 +43,41 @@ pub fn asked_by<'w>(words: &'w [String]) -> Option<Asked<'w>>
     }
 }
 
+/// The report of a table.
+fn report_of<'w>(table: &'w str) -> Option<Asked<'w>>
+    ensures { option_map question_of result ≡ report_of table.now }
+{
+    if !is_file_name(table.as_bytes()) {
+        return None;
+    }
+    Some(Asked::Fit { table, json: false })
+}
+
+/// The certificate of a table as JSON, by a name and an option in either order.
+fn json_of<'w>(first: &'w str, second: &'w str) -> Option<Asked<'w>>
+    ensures { option_map question_of result ≡ json_of first.now second.now }
+{
+    if is_file_name(first.as_bytes()) && second == "--json" {
+        return Some(Asked::Fit {
+            table: first,
+            json: true,
+        });
+    }
+    if is_file_name(second.as_bytes()) && first == "--json" {
+        return Some(Asked::Fit {
+            table: second,
+            json: true,
+        });
+    }
+    None
+}
+
 /// The check of a certificate on a table.
 fn check_of<'w>(table: &'w str, certificate: &'w str) -> Option<Asked<'w>>
     ensures { option_map question_of result ≡ check_of table.now certificate.now }
 {
     if is_file_name(table.as_bytes()) && is_file_name(certificate.as_bytes()) {
-        return Some(Asked { table, certificate });
+        return Some(Asked::CheckFit { table, certificate });
     }
     None
 }

@@ -5,7 +5,7 @@ ghost use Rattle.rp_fit_answers.specs.Contents as contents;
 ghost use Rattle.rp_fit_answers.specs.Contents.{CertificateIn};
 ghost use Rattle.rp_fit_answers.specs.InnerCauses.{IsReadingCause};
 ghost use Rattle.rp_fit_answers.specs.InnerLoadings.{HasContents, LoadsAsked, LoadsFile};
-ghost use Rattle.rp_fit_answers.specs.Questions.{CheckFit};
+ghost use Rattle.rp_fit_answers.specs.Questions.{CheckFit, Fit};
 ghost use Rattle.rp_limits.specs.declared.run.TheConstants.{MOST_BYTES, MOST_CERTIFICATE_BYTES};
 
 use crate::faults::{certificate_refusal, refusal, table_refusal};
@@ -18,6 +18,19 @@ use rp_outside::{Desk, LoadFault, load};
 use rp_table::Table;
 use rp_text::read_table;
 use std::alloc::Global;
+
+/// The table of a question about its indices.
+pub(crate) fn load_asked_table<'a, D: Desk>(
+    alloc: Global,
+    desk: &mut D,
+    table: &'a str,
+    json: bool,
+) -> Result<Table, Cause<'a>>
+    ensures { LoadsAsked D.bytes D.faults D.calls D.asked desk.old desk.new (Fit table.now json)
+        (λ held. HasContents (D.bytes desk.old) (Fit table.now json) (contents.Table held)) result }
+{
+    load_table(alloc, desk, table)
+}
 
 /// The table of a question about a certificate, and the items of the certificate.
 pub(crate) fn load_asked_certificate<'a, D: Desk>(

@@ -1,4 +1,4 @@
-//! The program of goodness of fit: the command `checkfit`.
+//! The program of goodness of fit: the commands `fit` and `checkfit`.
 #![tactic(auto)]
 
 mod program;

@@ -1,4 +1,4 @@
-//! The program, and its call.
+//! The program of the two commands, and its call.
 ghost use Rattle.std.specs.Prelude.{◌≡◌, ◌⊎◌, Some, map, string_bytes};
 ghost use Rattle.rp_outside.specs.Faults.{HasRisen};
 ghost use Rattle.rp_front.specs.Calls.{AnswersUsage, AsksByName, AsksInTurn, IsWritten};
@@ -9,13 +9,13 @@ ghost use Rattle.rp_front.specs.Turns.{AsksForFirst};
 ghost use Rattle.rp_fit_answers.specs.GoodnessOfFit.{goodness_of_fit};
 ghost use Rattle.rp_fit_answers.specs.Questions.{Question, asked_in, question_of};
 
-use rp_fit_answers::{Asked, answer_check, asked_by};
+use rp_fit_answers::{Asked, answer_check, answer_indices, asked_by};
 use rp_front::{Answer, Cause, Program, Status, run_program};
 use rp_num::NoMemory;
 use rp_outside::{Desk, Sink};
 use std::alloc::Global;
 
-/// The program: the check of a certificate on goodness of fit of a table.
+/// The program: the indices of goodness of fit of a table, and the check of a certificate on them.
 pub struct GoodnessOfFit;
 
 impl<'w> Program<'w> for GoodnessOfFit {
@@ -36,7 +36,7 @@ impl<'w> Program<'w> for GoodnessOfFit {
     fn usage() -> &'static [u8]
         ensures { result.now ≡ goodness_of_fit.usage }
     {
-        b"usage: rp-wide checkfit TABLE CERT\n"
+        b"usage: rp-wide fit TABLE [--json]\n       rp-wide checkfit TABLE CERT\n"
     }
 
     fn read(_alloc: Global, words: &'w [String]) -> Result<Option<Asked<'w>>, NoMemory> {
@@ -48,7 +48,12 @@ impl<'w> Program<'w> for GoodnessOfFit {
         desk: &mut D,
         asked: &'a Asked<'w>,
     ) -> Result<Answer, Cause<'a>> {
-        answer_check(alloc, desk, asked.table, asked.certificate)
+        match asked {
+            Asked::Fit { table, json } => answer_indices(alloc, desk, table, *json),
+            Asked::CheckFit { table, certificate } => {
+                answer_check(alloc, desk, table, certificate)
+            }
+        }
     }
 
     ghost begins_unrefused = { begins_unrefused };
@@ -60,8 +65,8 @@ impl<'w> Program<'w> for GoodnessOfFit {
     ghost never_both = { never_both };
 }
 
-/// Answers the words of a command line that ask for the check of a certificate on goodness of fit, over the files of a
-/// desk. The answer goes to `out`, and the reason why there is none to `err`, whose failures change
+/// Answers the words of a command line that ask for indices of goodness of fit, or for the check of a certificate on them,
+/// over the files of a desk. The answer goes to `out`, and the reason why there is none to `err`, whose failures change
 /// no status. Where hints are wanted, a line after each error says what to do.
 pub fn run_fit<D: Desk, O: Sink, E: Sink>(
     alloc: Global,
