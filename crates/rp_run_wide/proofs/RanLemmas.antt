@@ -1,5 +1,5 @@
 -- What a call in memory wrote and told, and what its caller hands on of it.
-use Rattle.std.proofs.Common.{◌≡◌, ◌≤◌, ◌⊎◌, ◌∙◌, ℕ, List, [], ◌∷◌, Option, Some, None, ⊎_elim, inl, inr, refl, sym, subst, arith}
+use Rattle.std.proofs.Common.{◌≡◌, ◌≤◌, ◌⊎◌, ◌∙◌, ◌++◌, ℕ, List, [], ◌∷◌, Option, Some, None, ⊎_elim, inl, inr, refl, sym, subst, ap, arith}
 use Rattle.clap.specs.Faults.{fault_of}
 use Rattle.rp_outside.specs.Faults.{HasRisen}
 use Rattle.rp_outside.specs.Known.{Grows, Stays}
@@ -16,8 +16,8 @@ use Rattle.rp_commands.specs.Gains.{Gains}
 use Rattle.rp_commands.specs.Turns.{AsksForFirst}
 use Rattle.rp_run_wide.specs.Filling.{as_filled}
 use Rattle.rp_guide.specs.Gains.{GainsText, SinkChange}
-use Rattle.rp_run_wide.specs.Helping.{AnswersWithHints, DeskChange, with_hint}
-use Rattle.rp_run_wide.specs.InnerRan.{IsDelivered, LooksOnly, Ran}
+use Rattle.rp_run_wide.specs.Helping.{AnswersWithHints, DeskChange, as_helped, fit_calls, with_hint}
+use Rattle.rp_run_wide.specs.InnerRan.{IsDelivered, LooksOnly, Ran, told_of_all}
 
 none_risen : HasRisen 0 0 → ⊥
 none_risen risen = ⊎_elim (λ less. omega (arith, less)) (λ past. omega (arith, past)) risen
@@ -28,6 +28,17 @@ grown now text grows = let whole = grows [] refl in cc
 gained : (now text : List ℕ) → Gains (Some []) (Some now) 0 0 text → now ≡ text
 gained now text gains = ⊎_elim (λ grows. grown now text grows) (λ part. absurd (none_risen part.1)) gains
 
+-- what is told of all commands is the line of the same cause
+helped : (files : Files) (rose : List ℕ → Type 0) (asks : Line → ℕ → Type 0) (denoted : Option Line) (s : Status) (told : List ℕ)
+    → IsFaultLineBy as_filled files rose asks denoted s told → IsFaultLineBy as_helped files rose asks denoted s (told_of_all s told)
+helped files rose asks denoted Done told is = absurd is
+helped files rose asks denoted Rejected told is = absurd is
+helped files rose asks denoted Usage told is = ap (λ (t : List ℕ). t ++ fit_calls) is
+helped files rose asks denoted ReadFault told is = is
+helped files rose asks denoted Refused told is = is
+helped files rose asks denoted WriteFault told is = is
+helped files rose asks denoted NoMemory told is = is
+
 -- sinks in memory that took all
 module _ (words : List (List ℕ)) (desk : DeskChange) (s : Status) (text told : List ℕ) where
   fresh : AnswersUsage (denoted_line words) s → (s ≡ Usage → ¬ (fault_of program words ≡ []))
@@ -36,13 +47,14 @@ module _ (words : List (List ℕ)) (desk : DeskChange) (s : Status) (text told :
       → TellsWhyBy as_filled desk.bytes (Rose desk.faults desk.faults_after) (AsksForFirst desk.bytes desk.calls desk.calls_after) (denoted_line words) s (Some []) (Some told) 0 0
       → ((line : Line) → denoted_line words ≡ Some line → IsAcceptedBy as_filled.limits desk.bytes line → NoneRose line desk.faults desk.faults_after → ¬ HasRisen 0 0 → IsEnd s ⊎ (s ≡ NoMemory))
       → ((line : Line) → denoted_line words ≡ Some line → IsRefusedBy as_filled.limits desk.bytes line → NoneRose line desk.faults desk.faults_after → (s ≡ Refused) ⊎ (s ≡ NoMemory))
-      → Ran words desk s text told
+      → Ran words desk s text (told_of_all s told)
   fresh usage clap written verdict why complete refused = record {
     usage = usage;
     refused_by_clap = clap;
     answered = λ end. (let a = written.answered end in subst (λ (t : List ℕ). AnswersDenotedBy as_filled desk.bytes (denoted_line words) s t) (sym (grown text a.0 a.2)) a.1);
     faulted = λ no_end. (let w = why.told no_end in
-        subst (λ (t : List ℕ). IsFaultLineBy as_filled desk.bytes (Rose desk.faults desk.faults_after) (AsksForFirst desk.bytes desk.calls desk.calls_after) (denoted_line words) s t) (sym (gained told w.0 w.2)) w.1);
+        helped desk.bytes (Rose desk.faults desk.faults_after) (AsksForFirst desk.bytes desk.calls desk.calls_after) (denoted_line words) s told
+        (subst (λ (t : List ℕ). IsFaultLineBy as_filled desk.bytes (Rose desk.faults desk.faults_after) (AsksForFirst desk.bytes desk.calls desk.calls_after) (denoted_line words) s t) (sym (gained told w.0 w.2)) w.1));
     written = λ fault. none_risen (written.write_counted fault);
     verdict = verdict;
     complete = λ line is accepted calm. complete line is accepted calm none_risen;
@@ -57,7 +69,7 @@ module _ (words : List (List ℕ)) (desk : DeskChange) (s : Status) (text told :
       → TellsWhyBy as_filled desk.bytes (Rose desk.faults desk.faults_after) (AsksForFirst desk.bytes desk.calls desk.calls_after) (denoted_line words) s (Some err_old) (Some told) err_before err_after
       → ((line : Line) → denoted_line words ≡ Some line → IsAcceptedBy as_filled.limits desk.bytes line → NoneRose line desk.faults desk.faults_after → ¬ HasRisen out_before out_after → IsEnd s ⊎ (s ≡ NoMemory))
       → ((line : Line) → denoted_line words ≡ Some line → IsRefusedBy as_filled.limits desk.bytes line → NoneRose line desk.faults desk.faults_after → (s ≡ Refused) ⊎ (s ≡ NoMemory))
-      → Ran words desk s text told
+      → Ran words desk s text (told_of_all s told)
   ran out_old err_old out_before out_after err_before err_after no_out from to no_err start end usage clap written verdict why complete refused =
       fresh usage clap (rw (no_out, from, to) at written) verdict (rw (no_err, start, end) at why) (rw (from, to) at complete) refused
 

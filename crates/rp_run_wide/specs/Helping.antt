@@ -19,6 +19,7 @@ use Rattle.rp_commands.specs.Calls.{AnswersUsage, AsksByName, AsksInTurn, GivesC
 use Rattle.rp_commands.specs.Endings.{IsEnd, IsFaultLineBy, NoneRose, Rose}
 use Rattle.rp_commands.specs.FaultLines.{write_line}
 use Rattle.rp_commands.specs.Turns.{AsksForFirst}
+use Rattle.rp_answers.specs.Printed.{Printed}
 use Rattle.rp_run_wide.specs.Filling.{as_filled}
 
 -- the known bytes of each file, their counts of faults, the count of calls, and the known reads
@@ -46,17 +47,32 @@ status_code NoMemory line = codes "NoMemory"
 abbrev pub with_hint : Status → List ℕ → List ℕ
 with_hint status line = line ++ hint_line (status_code status line)
 
+-- how the two commands on goodness of fit are called, in the usage text
+abbrev pub fit_calls : List ℕ
+fit_calls = codes "       rp-wide fit TABLE [--json]" ++ 10 ∷ codes "       rp-wide checkfit TABLE CERT" ++ 10 ∷ []
+
+-- what `run_wide` prints, with a usage text that has these two commands too
+abbrev pub as_helped : Printed
+as_helped = record {
+  of_certificate = as_filled.of_certificate;
+  of_costs = as_filled.of_costs;
+  of_trial = as_filled.of_trial;
+  usage = as_filled.usage ++ fit_calls;
+  limits = as_filled.limits;
+}
+
 -- a page answers the words, or could not be written whole
 abbrev pub GivesPage : List ℕ → Status → SinkChange → SinkChange → Type 0
 GivesPage text result out err =
     (done : Bool) × (result ≡ (if done then Done else WriteFault)) × IsPageGiven text write_line done out err
 
--- why there is no answer, as `run` tells it, and then the hint; and beside an answer a note where it needs one
+-- why there is no answer, as `run` tells it, where the usage text has all commands, and then the hint; and beside an answer
+-- a note where it needs one
 pub record TellsWithHint (desk : DeskChange) (denoted : Option Line) (result : Status) (err : SinkChange) : Type 0 where
   pub noted : IsEnd result → (text : List ℕ) × AnswersDenotedBy as_filled desk.bytes denoted result text
       × GainsText err (note_line (note_code text))
   pub told : ¬ IsEnd result → (line : List ℕ)
-      × IsFaultLineBy as_filled desk.bytes (Rose desk.faults desk.faults_after)
+      × IsFaultLineBy as_helped desk.bytes (Rose desk.faults desk.faults_after)
       (AsksForFirst desk.bytes desk.calls desk.calls_after) denoted result line
       × GainsText err (with_hint result line)
 

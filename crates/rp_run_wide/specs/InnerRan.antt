@@ -1,5 +1,5 @@
 -- What a call of `run_wide` in memory leaves, and what is handed on of it (for the functions between).
-use Rattle.std.specs.Prelude.{◌≡◌, ◌⊎◌, ◌≤◌, ℕ, List, [], ◌∷◌, Some}
+use Rattle.std.specs.Prelude.{◌≡◌, ◌⊎◌, ◌≤◌, ℕ, List, [], ◌∷◌, ◌++◌, Some}
 use Rattle.clap.specs.Faults.{fault_of}
 use Rattle.rp_outside.specs.Faults.{EachStays, HasRisen, NoneFalls}
 use Rattle.rp_outside.specs.Known.{Stays, Grows, GrowsByPrefix}
@@ -18,7 +18,7 @@ use Rattle.rp_commands.specs.FaultLines.{write_line}
 use Rattle.rp_commands.specs.Turns.{AsksForFirst}
 use Rattle.rp_run_wide.specs.Filling.{as_filled}
 use Rattle.rp_guide.specs.Gains.{GainsText, SinkChange}
-use Rattle.rp_run_wide.specs.Helping.{DeskChange, with_hint}
+use Rattle.rp_run_wide.specs.Helping.{DeskChange, as_helped, fit_calls, with_hint}
 
 -- how the desk was asked, whatever the call ended with
 pub record LooksOnly (words : List (List ℕ)) (desk : DeskChange) : Type 0 where
@@ -29,12 +29,18 @@ pub record LooksOnly (words : List (List ℕ)) (desk : DeskChange) : Type 0 wher
   pub bytes_stay : EachStays desk.bytes desk.later
   pub faults_of_files : NoneFalls desk.faults desk.faults_after
 
+-- what is told where `run_wide` told this with that status: its usage text, and then the calls of the commands that it has
+-- not, or the same
+abbrev pub told_of_all : Status → List ℕ → List ℕ
+told_of_all Usage told = told ++ fit_calls
+told_of_all _ told = told
+
 -- what was written and told, where memory did not run out
 pub record Ran (words : List (List ℕ)) (desk : DeskChange) (status : Status) (text told : List ℕ) : Type 0 where
   pub usage : AnswersUsage (denoted_line words) status
   pub refused_by_clap : status ≡ Usage → ¬ (fault_of program words ≡ [])
   pub answered : IsEnd status → AnswersDenotedBy as_filled desk.bytes (denoted_line words) status text
-  pub faulted : ¬ IsEnd status → IsFaultLineBy as_filled desk.bytes (Rose desk.faults desk.faults_after)
+  pub faulted : ¬ IsEnd status → IsFaultLineBy as_helped desk.bytes (Rose desk.faults desk.faults_after)
       (AsksForFirst desk.bytes desk.calls desk.calls_after) (denoted_line words) status told
   pub written : ¬ (status ≡ WriteFault)
   pub verdict : GivesCheckVerdictBy as_filled.limits desk.bytes (denoted_line words) status

@@ -1,4 +1,4 @@
-//! Words that ask for the check of a certificate on goodness of fit.
+//! Words that ask for indices of goodness of fit, or for the check of a certificate on them.
 ghost use Rattle.std.specs.Prelude.{◌≡◌, map, string_bytes};
 ghost use Rattle.rp_run_wide.specs.FitHelping.{AnswersFit, begins_fit, front_status};
 
@@ -7,12 +7,12 @@ use rp_fit_run::run_fit;
 use rp_outside::{Desk, Sink};
 use std::alloc::Global;
 
-/// Whether words begin with `checkfit`, after the program's name.
+/// Whether words begin with `fit` or `checkfit`, after the program's name.
 pub(crate) fn begins_fit(words: &[String]) -> bool
     ensures { result ≡ begins_fit (map string_bytes words.now) }
 {
     match words {
-        [_, command, ..] => command.as_str() == "checkfit",
+        [_, command, ..] => command.as_str() == "fit" || command.as_str() == "checkfit",
         _ => false,
     }
 }

@@ -12,9 +12,9 @@ use rp_outside::{Desk, Sink};
 use std::alloc::Global;
 
 /// Answers the words of a command line as the program `rp-wide` does. `--help`, `COMMAND --help` and `--version` write a
-/// text to `out`, and no file is read. Words that begin with `checkfit` are answered as by `run_fit`, and all others
-/// as by `run_wide`, with two differences on `err`: a line that says what to do follows each error, and a line follows
-/// the verdict on an accepted certificate.
+/// text to `out`, and no file is read. Words that begin with `fit` or `checkfit` are answered as by `run_fit`, and all
+/// others as by `run_wide`, with two differences on `err`: a line that says what to do follows each error, and a line
+/// follows the verdict on an accepted certificate.
 pub fn run_wide_with_help<D: Desk, O: Sink, E: Sink>(
     alloc: Global,
     words: &Vec<String>,

@@ -1,6 +1,6 @@
 //! An answer with a hint after each error: the call of the edition runs in memory, and what it wrote and told is handed
 //! on.
-ghost use Rattle.std.specs.Prelude.{◌≡◌, ℕ, List, ◌∷◌, Some, IfOk, map, string_bytes, true, false};
+ghost use Rattle.std.specs.Prelude.{◌≡◌, ◌++◌, ℕ, List, ◌∷◌, Some, IfOk, map, string_bytes, true, false};
 ghost use Rattle.rp_command_line.specs.CommandLine.{Line as Asked};
 ghost use Rattle.rp_command_line.specs.Shapes.{HasShape, shape_of};
 ghost use Rattle.rp_command_line.specs.Words.{line_in};
@@ -8,8 +8,8 @@ ghost use Rattle.rp_outside.specs.Faults.{EachStays, NoneFalls};
 ghost use Rattle.rp_commands.specs.Calls.{AsksByName, AsksInTurn};
 ghost use Rattle.rp_commands.specs.Endings.{IsEnd};
 ghost use Rattle.rp_run_wide.specs.Helping as helping;
-ghost use Rattle.rp_run_wide.specs.Helping.{AnswersWithHints};
-ghost use Rattle.rp_run_wide.specs.InnerRan.{IsDelivered, Ran};
+ghost use Rattle.rp_run_wide.specs.Helping.{AnswersWithHints, fit_calls};
+ghost use Rattle.rp_run_wide.specs.InnerRan.{IsDelivered, Ran, told_of_all};
 
 use crate::running::run_wide;
 use rp_commands::Status;
@@ -99,11 +99,35 @@ fn gather<D: Desk>(alloc: Global, words: &Vec<String>, desk: &mut D) -> Result<G
     if status == Status::NoMemory || out.faults() > 0 || err.faults() > 0 {
         return Err(NoMemory);
     }
-    Ok(Gathered {
-        status,
-        text: out.into_bytes(),
-        told: err.into_bytes(),
-    })
+    let text = out.into_bytes();
+    let told = told_of_all(status, err.into_bytes())?;
+    Ok(Gathered { status, text, told })
+}
+
+/// What is told where `run_wide` told this: the usage text has the commands on goodness of fit too.
+fn told_of_all(status: Status, told: Vec<u8>) -> Result<Vec<u8>, NoMemory>
+    ensures { IfOk result (λ all. all.items ≡ told_of_all status told.items) }
+{
+    match status {
+        Status::Usage => with_fit_calls(told),
+        Status::Done
+        | Status::Rejected
+        | Status::ReadFault
+        | Status::Refused
+        | Status::WriteFault
+        | Status::NoMemory => Ok(told),
+    }
+}
+
+/// A usage text, and how the commands on goodness of fit are called.
+fn with_fit_calls(usage: Vec<u8>) -> Result<Vec<u8>, NoMemory>
+    ensures { IfOk result (λ all. all.items ≡ usage.items ++ fit_calls) }
+{
+    let mut all = usage;
+    all.extend_from_slice(
+        b"       rp-wide fit TABLE [--json]\n       rp-wide checkfit TABLE CERT\n",
+    )?;
+    Ok(all)
 }
 
 /// Hands on what was written and told.
