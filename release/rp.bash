@@ -6,12 +6,14 @@ _rp() {
     # commands: made by tools/make/catalogue
     mapfile -t COMPREPLY < <(compgen -W "pairs analyse certify check demand welfare utility random checkrandom patches trial menus pump cost power" -- "$word")
     # end of commands
-    case ${COMP_WORDS[0]} in *rp-wide) mapfile -t -O "${#COMPREPLY[@]}" COMPREPLY < <(compgen -W "--help --version" -- "$word") ;; esac
+    # words of rp-wide: made by tools/make/catalogue
+    case ${COMP_WORDS[0]} in *rp-wide) mapfile -t -O "${#COMPREPLY[@]}" COMPREPLY < <(compgen -W "fit checkfit --help --version" -- "$word") ;; esac
+    # end of words of rp-wide
     return
   fi
   case ${COMP_WORDS[1]} in
     # options: made by tools/make/catalogue
-    demand | welfare) options="--json" ;;
+    demand | welfare | fit) options="--json" ;;
     random) options="--per --json" ;;
     checkrandom | patches | menus) options="--per" ;;
     trial) return ;;

@@ -33,7 +33,9 @@ complete -c rp-wide -n __fish_use_subcommand -f -a menus -d 'Whether mixtures of
 complete -c rp-wide -n __fish_use_subcommand -f -a pump -d 'The greatest money pump ratio of a table'
 complete -c rp-wide -n __fish_use_subcommand -f -a cost -d 'The axioms of production on a technology, and the bounds on what outputs cost'
 complete -c rp-wide -n __fish_use_subcommand -f -a power -d 'How many random behaviours on a table\'s budgets fail the axiom'
-complete -c rp-wide -n '__fish_seen_subcommand_from demand welfare' -l json
+complete -c rp-wide -n __fish_use_subcommand -f -a fit -d 'The indices of goodness of fit of a table, with their evidence'
+complete -c rp-wide -n __fish_use_subcommand -f -a checkfit -d 'The checker\'s verdict on a certificate on goodness of fit of a table'
+complete -c rp-wide -n '__fish_seen_subcommand_from demand welfare fit' -l json
 complete -c rp-wide -n '__fish_seen_subcommand_from random' -l per -x
 complete -c rp-wide -n '__fish_seen_subcommand_from random' -l json
 complete -c rp-wide -n '__fish_seen_subcommand_from checkrandom patches menus' -l per -x

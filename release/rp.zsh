@@ -18,7 +18,7 @@ _rp_commands() {
     'cost:The axioms of production on a technology, and the bounds on what outputs cost'
     'power:How many random behaviours on a table'\''s budgets fail the axiom'
   )
-  [[ $service == rp-wide ]] && commands+=(--help --version)
+  [[ $service == rp-wide ]] && commands+=('fit:The indices of goodness of fit of a table, with their evidence' 'checkfit:The checker'\''s verdict on a certificate on goodness of fit of a table' --help --version)
   _describe command commands
 }
 _rp_panel() {
@@ -48,6 +48,7 @@ _rp() {
     checkrandom) _arguments '--per[so many units on each budget or menu]:N: ' '*:file:_files' ;;
     patches) _arguments '--per[so many units on each budget or menu]:N: ' '*:file:_files' ;;
     menus) _arguments '--per[so many units on each budget or menu]:N: ' '*:file:_files' ;;
+    fit) _arguments '--json[a certificate in place of a report]' '*:file:_files' ;;
     *) _files ;;
   esac
 }

@@ -116,6 +116,12 @@ def of_documents(facts):
         page = f"docs/reference/rp-{it['name']}.md"
         yield Place(page, "usage", {it["name"]: rf"^rp {quoted(it['usage'])}(?: >.*)?$"})
         yield Place(page, "sessions", {it["name"]: rf"^\$ \./rp {it['name']} "})
+    for it in facts["wide_commands"]:
+        page = f"docs/reference/rp-{it['name']}.md"
+        yield Place("docs/reference/README.md", "commands of rp-wide", {it["name"]: rf"^\| `rp-wide {quoted(it['usage'])}` \|"})
+        yield Place(page, "usage", {it["name"]: rf"^rp-wide {quoted(it['usage'])}(?: >.*)?$"})
+        yield Place(page, "sessions", {it["name"]: rf"^\$ \./rp-wide {it['name']} "})
+        yield Place("release/rp-wide.1", "commands", {it["name"]: rf"^\.B[IR]? {it['name']}\b"})
     yield from of_errors(facts, told, numbers)
     yield Place("crates/rp_guide/src/texts.rt", "help pages", {it["name"]: rf'b"{it["name"]}",\s*b"usage: rp-wide {quoted(it["usage"])}\\n' for it in commands},
                 all_of(r'^ *b"(\w+)",$'))  # fmt: skip
@@ -128,9 +134,13 @@ def of_documents(facts):
     yield Place(certificate, "reasons", {it: rf"^\| `{it}` \|" for it in reasons}, all_of(r"^\| `(\w+)` \|"), r"^\| Reason \|.*?^$", "UnheardOf")
     yield Place(certificate, "reasons in order", {it: rf"`{it}`" for it in reasons}, all_of(r"`([A-Z][a-z]\w*)`"), r"^## The order of checks.*", "UnheardOf")
     yield Place(certificate, "items of certificates", {it: rf'"item":"{it}"' for it in tags}, all_of(r'"item":"(\w+)"'))
-    yield Place(certificate, "kinds of certificates", {it: rf'"kind":"{it}"|is\s+`"{it}"`' for it in facts["certificates"]["kinds"]})
+    yield Place(certificate, "kinds of certificates", {it: rf'"kind":"{it}"|is\s+`"{it}"`' for it in [*facts["certificates"]["kinds"], "fit"]})
+    for page in ("rp-fit", "rp-checkfit"):
+        yield Place(f"docs/reference/{page}.md", "items on goodness of fit", {it: rf"^\| `{it}` \|" for it in facts["certificates"]["fit"]},
+                    all_of(r"^\| `(\w+)` \|"), r"^\| Item \|.*?^$")  # fmt: skip
     for page, own in PAGE_OF_LINE.items():
         yield Place(f"docs/reference/rp-{page}.md", "lines of reports", {it: rf"^\|.*`{it}\b" for it in own.split()})
+    yield Place("docs/reference/rp-fit.md", "lines of reports", {it: rf"^\|.*`{it}\b" for it in facts["fit_lines"]})
     placed = {it for own in PAGE_OF_LINE.values() for it in own.split()}
     yield Place("docs/reference/rp-analyse.md", "lines of all reports", {it: NEVER for it in facts["lines"] if it not in placed} or {"garp": "`garp"})
     for page, own in WORDS_OF.items():

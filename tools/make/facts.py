@@ -47,7 +47,7 @@ def sentence(doc):
 
 def variants(file, name):
     """Returns the variants of an enum, each with its doc comment."""
-    body = need(rf"^pub(?:\(crate\))? enum {name} \{{\n(.*?)^\}}", file)[1]
+    body = need(rf"^pub(?:\(crate\))? enum {name}(?:<[^>]*>)? \{{\n(.*?)^\}}", file)[1]
     found = {}
     for doc, variant in re.findall(r"((?:^    ///[^\n]*\n)*)(?:^    #\[[^\n]*\n)*^    ([A-Z]\w*)", body, re.M):
         found[variant] = sentence(doc)
@@ -137,6 +137,24 @@ def commands():
     if told != [it["usage"] for it in found]:
         raise Unread(f"crates/{file}: the usage text is not that of the forms")
     return found
+
+
+def wide_commands():
+    """Returns the commands that `rp-wide` has besides those of `rp`, as its usage text has them."""
+    says = variants("rp_fit_answers/src/asked.rt", "Asked")
+    usage = need(r'^        b"(usage: [^"]*)"', "rp_fit_run/src/program.rt")[1].replace("\\n", "\n")
+    called = [line.removeprefix("usage:").strip() for line in usage.splitlines()]
+    added = need(r'^    all\.extend_from_slice\(\s*b"([^"]*)"', "rp_run_wide/src/hinting.rt")[1].replace("\\n", "\n")
+    shapes = [re.findall(r"\[[^]]*\]|\S+", line.removeprefix("rp-wide ")) for line in called]
+    if [line.strip() for line in added.splitlines()] != called or [it[0] for it in shapes] != [name.lower() for name in says]:
+        raise Unread("the commands on goodness of fit, their usage texts and what is asked by them are not the same")
+    return [
+        {
+            "name": name, "usage": " ".join([name, *rest]), "files": [it for it in rest if not it.startswith("[")], "numbers": [],
+            "options": [{"name": it[1:-1]} for it in rest if it.startswith("[")], "levels": False, "says": own,
+        }
+        for (name, *rest), own in zip(shapes, says.values())
+    ]  # fmt: skip
 
 
 # ---- kinds of files
@@ -237,7 +255,9 @@ def items():
         for tag in re.findall(r'ghost tag = \{ codes "(\w+)" \}', text(f"{crate}/src/tags.rt")):
             tags[tag] = crate
     names = re.findall(r'^kind_name (\w+) = codes "(\w+)"', text("rp_json/specs/CertificateValue.antt"), re.M)
-    return {"kinds": [name for _, name in names], "tags": list(tags)}
+    fit = re.findall(r'ghost tag = \{ codes "(\w+)" \}', text("rp_json_indices/src/tags.rt"))
+    measures = re.findall(r'codes "(\w+)"', text("rp_json_indices/specs/MeasureValue.antt"))
+    return {"kinds": [name for _, name in names], "tags": list(tags), "fit": ["efficiency", *(it for it in fit if it not in measures)]}
 
 
 def reports():
@@ -280,6 +300,14 @@ def lines():
     begun += re.findall(r'pair_line \(codes "(\w+) "\)', source)
     begun += re.findall(r'^production_head_text \w+ =\s*line_of\s*\(codes "(\w+)', source, re.M)
     return sorted(set(begun) | set(verdicts()))
+
+
+def fit_lines():
+    """Returns the words with which lines of the report of `fit` begin."""
+    path = f"{TOP}/crates/rp_fit_report/specs"
+    source = "\n".join(text(f"rp_fit_report/specs/{name}") for name in sorted(os.listdir(path)))
+    begun = re.findall(r'(?:line_of|range_text)\s*\(codes "(\w+)', source) + re.findall(r'^(?:measure|kind)_text \w+ = codes "(\w+)', source, re.M)
+    return sorted({*begun, "efficiency"})
 
 
 # ---- hints
@@ -354,7 +382,7 @@ def programs(asked):
     usage = [line.removeprefix("usage:").strip() for line in panel_page() if re.match(r"(usage:| +)rp-panel|usage: rp-panel", line)]
     return [
         {"name": "rp", "commands": names, "options": []},
-        {"name": "rp-wide", "commands": wide, "options": ["--help", "--version"]},
+        {"name": "rp-wide", "commands": [*wide, *(it["name"] for it in wide_commands())], "options": ["--help", "--version"]},
         {"name": "rp-panel", "usage": usage, "options": [*(it["name"] for it in panel_options()), "--help", "--version"]},
     ]
 
@@ -362,6 +390,6 @@ def programs(asked):
 def read():
     refused, told, numbered = faults(), reasons(), statuses()
     return {
-        "commands": commands(), "kinds": kinds(), "faults": refused, "limits": limits(), "reasons": told, "statuses": numbered,
-        "programs": programs(commands()), "panel_options": panel_options(), "panel_columns": panel_columns(), "certificates": items(), "verdicts": verdicts(), "lines": lines(), "hints": hints(refused, told, numbered),
+        "commands": commands(), "wide_commands": wide_commands(), "kinds": kinds(), "faults": refused, "limits": limits(), "reasons": told, "statuses": numbered,
+        "programs": programs(commands()), "panel_options": panel_options(), "panel_columns": panel_columns(), "certificates": items(), "verdicts": verdicts(), "lines": lines(), "fit_lines": fit_lines(), "hints": hints(refused, told, numbered),
     }  # fmt: skip

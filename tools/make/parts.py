@@ -23,8 +23,8 @@ def in_font(usage, program):
     return line
 
 
-def synopsis(found, program):
-    return ".nf\n" + "".join(f"{in_font(it['usage'], program)}\n" for it in found["commands"]) + ".fi\n"
+def synopsis(own, program):
+    return ".nf\n" + "".join(f"{in_font(it['usage'], program)}\n" for it in own) + ".fi\n"
 
 
 def exit_codes(found):
@@ -74,10 +74,10 @@ def sizes_table(found):
 # ---- completions
 
 
-def by_options(found):
-    """Returns the commands by their options, in order; those without files and options have none."""
+def by_options(own):
+    """Returns these commands by their options, in order; those without files and options have none."""
     told = {}
-    for it in found["commands"]:
+    for it in own:
         options = " ".join(one["name"] for one in it["options"])
         if options or not it["files"]:
             told.setdefault(options, []).append(it["name"])
@@ -89,8 +89,14 @@ def bash_commands(found):
     return f'    mapfile -t COMPREPLY < <(compgen -W "{names}" -- "$word")\n'
 
 
+def bash_wide(found):
+    names = " ".join([*(it["name"] for it in found["wide_commands"]), "--help", "--version"])
+    return f'    case ${{COMP_WORDS[0]}} in *rp-wide) mapfile -t -O "${{#COMPREPLY[@]}}" COMPREPLY < <(compgen -W "{names}" -- "$word") ;; esac\n'
+
+
 def bash_options(found):
-    return "".join(f"    {' | '.join(names)}) " + (f'options="{own}" ;;\n' if own else "return ;;\n") for own, names in by_options(found).items())
+    told = by_options([*found["commands"], *(it for it in found["wide_commands"] if it["options"])])
+    return "".join(f"    {' | '.join(names)}) " + (f'options="{own}" ;;\n' if own else "return ;;\n") for own, names in told.items())
 
 
 def bash_panel(found):
@@ -117,8 +123,9 @@ SAYS = {"--json": "a certificate in place of a report", "--per": "so many units 
 
 def for_zsh(found):
     commands = "".join(f"    '{it['name']}:{quoted(it['says'], IN_ZSH)}'\n" for it in found["commands"])
+    wide = "".join(f"'{it['name']}:{quoted(it['says'], IN_ZSH)}' " for it in found["wide_commands"])
     cases = ""
-    for it in found["commands"]:
+    for it in [*found["commands"], *found["wide_commands"]]:
         own = [zsh_option(one["name"], SAYS[one["name"]], ["N"] if "least" in one else []) for one in it["options"]]
         cases += f"    {it['name']}) _arguments {' '.join(own)} '*:file:_files' ;;\n" if own else ""
     own = [zsh_option(it["name"], it["says"], it["values"], it["name"] == "--keep") for it in found["panel_options"]]
@@ -128,7 +135,7 @@ def for_zsh(found):
 _rp_commands() {{
   local -a commands=(
 {commands}  )
-  [[ $service == rp-wide ]] && commands+=(--help --version)
+  [[ $service == rp-wide ]] && commands+=({wide}--help --version)
   _describe command commands
 }}
 _rp_panel() {{
@@ -154,9 +161,9 @@ _rp "$@"
 
 def for_fish(found):
     lines = ["# Completion of rp, rp-wide and rp-panel in fish. Made by tools/make/catalogue."]
-    for program in ("rp", "rp-wide"):
-        lines += [f"complete -c {program} -n __fish_use_subcommand -f -a {it['name']} -d '{quoted(it['says'], IN_FISH)}'" for it in found["commands"]]
-        for own, names in by_options(found).items():
+    for program, told in (("rp", found["commands"]), ("rp-wide", [*found["commands"], *found["wide_commands"]])):
+        lines += [f"complete -c {program} -n __fish_use_subcommand -f -a {it['name']} -d '{quoted(it['says'], IN_FISH)}'" for it in told]
+        for own, names in by_options(told).items():
             for option in own.split():
                 value = " -x" if option == "--per" else ""
                 lines.append(f"complete -c {program} -n '__fish_seen_subcommand_from {' '.join(names)}' -l {option[2:]}{value}")
@@ -172,11 +179,13 @@ def for_fish(found):
 
 
 PARTS = (
-    ("release/rp.1", "synopsis", lambda found: synopsis(found, "rp")),
+    ("release/rp.1", "synopsis", lambda found: synopsis(found["commands"], "rp")),
+    ("release/rp-wide.1", "synopsis", lambda found: synopsis(found["wide_commands"], "rp-wide")),
     ("release/rp.1", "exit codes", exit_codes),
     ("release/rp-panel.1", "synopsis", panel_synopsis),
     ("release/rp-panel.1", "options", panel_options),
     ("release/rp.bash", "commands", bash_commands),
+    ("release/rp.bash", "words of rp-wide", bash_wide),
     ("release/rp.bash", "options", bash_options),
     ("release/rp.bash", "options of panels", bash_panel),
     ("docs/reference/limits.md", "sizes", sizes_table),
