@@ -123,7 +123,7 @@ def of_documents(facts):
         yield Place(page, "sessions", {it["name"]: rf"^\$ \./rp-wide {it['name']} "})
         yield Place("release/rp-wide.1", "commands", {it["name"]: rf"^\.B[IR]? {it['name']}\b"})
     yield from of_errors(facts, told, numbers)
-    yield Place("crates/rp_guide/src/texts.rt", "help pages", {it["name"]: rf'b"{it["name"]}",\s*b"usage: rp-wide {quoted(it["usage"])}\\n' for it in commands},
+    yield Place("crates/rp_guide/src/texts.rt", "help pages", {it["name"]: rf'b"{it["name"]}",\s*b"usage: rp-wide {quoted(it["usage"])}\\n' for it in [*commands, *facts["wide_commands"]]},
                 all_of(r'^ *b"(\w+)",$'))  # fmt: skip
     unsaid = [it["name"] for it in facts["limits"] if it["name"] not in {*LIMITS, *INNER}]
     yield Place("docs/reference/limits.md", "limits", {**said(facts, LIMITS), **{it: NEVER for it in unsaid}})

@@ -377,12 +377,12 @@ def programs(asked):
     """Returns the three programs, each with its commands, its forms of words where it has no commands, and its options beside those."""
     names = [it["name"] for it in asked]
     wide = [it for it in re.findall(r'^        b"(\w+)",$', need(r"const WIDE_PAGES:.*?^\];", PAGES)[0], re.M)]
-    if wide != names:
+    if wide != [*names, *(it["name"] for it in wide_commands())]:
         raise Unread(f"crates/{PAGES} has the pages of other commands than there are")
     usage = [line.removeprefix("usage:").strip() for line in panel_page() if re.match(r"(usage:| +)rp-panel|usage: rp-panel", line)]
     return [
         {"name": "rp", "commands": names, "options": []},
-        {"name": "rp-wide", "commands": [*wide, *(it["name"] for it in wide_commands())], "options": ["--help", "--version"]},
+        {"name": "rp-wide", "commands": wide, "options": ["--help", "--version"]},
         {"name": "rp-panel", "usage": usage, "options": [*(it["name"] for it in panel_options()), "--help", "--version"]},
     ]
 

@@ -35,7 +35,7 @@ pub(crate) const PANEL_PAGES: [(&[u8], &[u8]); 1] = [(
 )];
 
 /// The pages of `rp-wide`.
-pub(crate) const WIDE_PAGES: [(&[u8], &[u8]); 16] = [
+pub(crate) const WIDE_PAGES: [(&[u8], &[u8]); 18] = [
     (
         b"",
         b"rp-wide tests revealed preference exactly, and its results are proved.\n\
@@ -55,6 +55,8 @@ pub(crate) const WIDE_PAGES: [(&[u8], &[u8]); 16] = [
             \x20      rp-wide pump TABLE\n\
             \x20      rp-wide cost TECH NEW\n\
             \x20      rp-wide power TABLE SEED N\n\
+            \x20      rp-wide fit TABLE [--json]\n\
+            \x20      rp-wide checkfit TABLE CERT\n\
             \x20      rp-wide COMMAND --help\n\
             \x20      rp-wide --help\n\
             \x20      rp-wide --version\n\
@@ -303,5 +305,28 @@ pub(crate) const WIDE_PAGES: [(&[u8], &[u8]); 16] = [
             TABLE     a CSV file with a row for each observation, and p_NAME and q_NAME for each good\n\
             SEED      an integer of at most 64 bits\n\
             N         the number of simulated data sets, 1 to 1000\n",
+    ),
+    (
+        b"fit",
+        b"usage: rp-wide fit TABLE [--json]\n\
+            \n\
+            Computes indices of goodness of fit: numbers of violations, the CCEI, the Houtman-Maks index,\n\
+            Varian's index, the minimum cost index, the maximum money pump index, and the levels at which\n\
+            cyclical monotonicity and HARP hold. Each is exact, or has a lower and an upper bound, and\n\
+            comes with its evidence.\n\
+            \n\
+            TABLE     a CSV file with a row for each observation, and p_NAME and q_NAME for each good\n\
+            --json    write a certificate instead of the report\n",
+    ),
+    (
+        b"checkfit",
+        b"usage: rp-wide checkfit TABLE CERT\n\
+            \n\
+            Checks each item of a certificate on goodness of fit, whoever made it, against the table. It is\n\
+            proved that an accepted item proves its index, or its bounds on the index, for exactly this\n\
+            table.\n\
+            \n\
+            TABLE     a CSV file with a row for each observation, and p_NAME and q_NAME for each good\n\
+            CERT      a certificate in JSON, as fit --json writes it\n",
     ),
 ];

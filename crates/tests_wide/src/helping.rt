@@ -119,7 +119,7 @@ fn endings(rt: HostRuntime) -> Result<(), Fail> {
 }
 
 /// The commands, and the page of each.
-const PAGES: [(&str, &str); 15] = [
+const PAGES: [(&str, &str); 17] = [
     ("pairs", "usage: rp-wide pairs TABLE\n"),
     ("analyse", "usage: rp-wide analyse TABLE\n"),
     ("certify", "usage: rp-wide certify TABLE\n"),
@@ -144,6 +144,8 @@ const PAGES: [(&str, &str); 15] = [
     ("pump", "usage: rp-wide pump TABLE\n"),
     ("cost", "usage: rp-wide cost TECH NEW\n"),
     ("power", "usage: rp-wide power TABLE SEED N\n"),
+    ("fit", "usage: rp-wide fit TABLE [--json]\n"),
+    ("checkfit", "usage: rp-wide checkfit TABLE CERT\n"),
 ];
 
 #[test]
