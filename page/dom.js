@@ -14,6 +14,17 @@ export function make(name, properties = {}, ...children) {
 
 export const textOf = (id) => document.getElementById(id).textContent;
 
+const FIELDS = "button, input, select, textarea, summary";
+
+/** Draws a place anew. The field that had the focus has it again, where one of its kind stands in its turn. */
+export function drawAnew(place, ...parts) {
+  const own = document.activeElement;
+  const turn = [...place.querySelectorAll(FIELDS)].indexOf(own);
+  place.replaceChildren(...parts);
+  const again = turn < 0 ? null : place.querySelectorAll(FIELDS)[turn];
+  if (again?.tagName === own.tagName && again.type === own.type) again.focus();
+}
+
 let count = 0;
 
 /** A name that no other element has. */

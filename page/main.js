@@ -8,7 +8,7 @@ import { otherAnswers } from "./others.js";
 import { panelQuestions } from "./panel_questions.js";
 import { Panel, purchasesOf } from "./panels.js";
 import { tableQuestions } from "./questions.js";
-import { meansOf, offeredSays, parseFault } from "./reports.js";
+import { countsMean, meansOf, offeredSays, parseFault } from "./reports.js";
 import { Runs } from "./runs.js";
 import { Sheet, fitOf, longFiles, placeInFile, placeInWords, raggedRecord, splitHouseholds } from "./sheets.js";
 import { Slot } from "./slots.js";
@@ -102,6 +102,7 @@ function showsOf(own) {
   const tell = only((text) => {
     at("answers").hidden = false;
     at("status").textContent = text;
+    if (own.takesFocus()) at("answers-head").focus();
   });
   const progress = only((done, all, began, what) => {
     const left = ((performance.now() - began) / done) * (all - done);
@@ -143,7 +144,11 @@ function refused(shows, told) {
   const slot = slots.find((it) => fault && it.sheet && it.file.name === fault.file);
   const where = slot ? placeInFile(fault, slot.sheet.records, slot.mapping) : null;
   const place = where ? placeInWords(where) : "";
-  if (where) fault.means = slot.sheet.advice(meansOf(fault.fault, where));
+  if (where) {
+    const isOfChoices = ["choices", "menus"].includes(slot.form.file);
+    const ofCounts = isOfChoices ? countsMean(fault.fault, where, slot.sheet.header) : "";
+    fault.means = slot.sheet.advice(ofCounts || meansOf(fault.fault, where));
+  }
   shows.tell(`Error: ${told.split("\n")[0]}`);
   shows.results(
     ...(fault ? [make("p", { className: "fault", textContent: `${fault.fault}${place}. ${fault.means}` })] : []),
@@ -236,7 +241,8 @@ async function answerOthers(own) {
   shows.results(...given.parts);
 }
 
-function ready(slot) {
+function ready(slot, isPressed = false) {
+  if (isPressed) run.press();
   if (kind.key !== "table") return answerOthers(run);
   return slot.mapping.household >= 0 ? answerPanel(slot, run) : answerTable(slot, run);
 }

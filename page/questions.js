@@ -277,7 +277,7 @@ function levelQuestion(client, file, hasOwnMoney) {
 }
 
 /** Of the two ways to give a certificate the one that was used last counts: the other is emptied. */
-export function checkQuestion(client, says, files, words) {
+export function checkQuestion(client, says, files, words, hasOwnMoney = false) {
   const chooser = make("input", { type: "file", accept: ".json,application/json" });
   const pasted = area("", 3);
   chooser.addEventListener("change", () => (pasted.value = ""));
@@ -294,7 +294,7 @@ export function checkQuestion(client, says, files, words) {
     const named = [...files.map((it) => it.name), name, ...rest];
     const answer = await client.answer([command, ...named], [...files, { name, bytes }]);
     const isAnswer = answer.status === 0 || answer.status === 1;
-    const told = isAnswer ? checkInWords(answer.output, new TextDecoder().decode(bytes)) : [];
+    const told = isAnswer ? checkInWords(answer.output, new TextDecoder().decode(bytes), hasOwnMoney) : [];
     const [first] = told;
     showAnswer(place, answer, told.length > 1 ? [listOf(told)] : told.length ? [say(first)] : []);
   });
@@ -334,7 +334,7 @@ export function tableQuestions(client, file, table, shows, hasOwnMoney = false) 
       showAnswer(place, answer, answer.status === 0 ? [verdictOf(pumpSays(answer.output)), ...steps] : []);
     },
   );
-  const check = checkQuestion(client, "Check a certificate on this table", [file], ["check"]);
+  const check = checkQuestion(client, "Check a certificate on this table", [file], ["check"], hasOwnMoney);
   if (table.levels) {
     const without = "Demand, welfare, the money pump and power are defined without levels: leave the column e out " +
       "for them.";

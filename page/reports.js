@@ -220,6 +220,30 @@ export function meansOf(fault, place = null) {
   return sentenceOf("fault", fault);
 }
 
+// Names by which people may mean `n`, how many people made a choice.
+const COUNTS = ["share", "shares", "count", "counts", "freq", "frequency", "weight", "weights"];
+const FROM_SHARES = "If you have shares, multiply them by 1000, or by another power of 10, and round them.";
+
+/**
+ * What to do about a fault of a file of choices whose column `n` is missing, has another name or has shares; nothing
+ * where the fault is another. `header` has the names of the file's columns.
+ */
+export function countsMean(fault, place, header) {
+  if (fault === "BadNumber" && place.name === "n" && /^0*[.]0*[1-9]/.test(place.cell.trim())) {
+    return `This is a count, so it is an integer. ${FROM_SHARES}`;
+  }
+  if (header.includes("n")) return "";
+  if (fault === "BadHeader" && COUNTS.includes(place.name.toLowerCase())) {
+    return (
+      `The column ${place.name} is not read. Name it n if its integers say how many people made the choice. ` +
+      `${FROM_SHARES} If each row is one person's choice, name the column n, and write 1 in each row.`
+    );
+  }
+  return fault === "Unpaired" && !place.column
+    ? "The column n is missing: how many people made the choice. If each row is one person's choice, write 1 there."
+    : "";
+}
+
 /** What is told of a refused file: its name, fault, record, column, and what it means. */
 export function parseFault(told) {
   // What the program adds to its own line is said here by the catalogue.
@@ -242,40 +266,81 @@ const ITEM_WORDS = {
   afriat: { cycle: "there are no Afriat numbers", utility: "there are Afriat numbers" },
   homothetic: { cycle: "the homothetic test is violated", values: "the homothetic test holds" },
   quasilinear: { cycle: "the quasilinear test is violated", values: "the quasilinear test holds" },
-  demand: {
-    cycle: "there are no bounds of demand, because GARP is violated",
-    goods: "bounds of demand on a new budget",
-  },
-  welfare: {
-    cycle: "there are no bounds on the money metric, because GARP is violated",
-    lower: "bounds on the money metric of an observation at new prices",
-  },
-  random: {
-    weights: "no population of consumers with preferences makes these choices; this share at most",
-    parts: "these types make the choices",
-  },
+  demand: { cycle: "there are no bounds of demand, because GARP is violated" },
+  welfare: { cycle: "there are no bounds on the money metric, because GARP is violated" },
+  random: { parts: "these types make the choices" },
 };
+// So many levels are named.
+const NAMED_LEVELS = 8;
+
+/** The efficiency levels of a certificate, in words: with them GARP and Afriat's numbers are proved at the levels. */
+function levelsInWords(levels) {
+  const named = levels.slice(0, NAMED_LEVELS).map((it) => decimalOf(`${it}/1000`, 3)).join(", ");
+  return levels.length > NAMED_LEVELS ? `${named} and ${levels.length - NAMED_LEVELS} more` : named;
+}
+
+/** The share of all choices that the parts of an item on choices make. */
+function shareOfParts({ parts, den, total }) {
+  const made = parts.reduce((sum, [, weight]) => sum + BigInt(weight), 0n);
+  return withDecimal(inUnits(`${made}/${BigInt(den) * BigInt(total)}`, 0));
+}
+
+const boundInWords = (it) => (typeof it === "string" ? it : "withheld" in it ? "withheld" : it.value);
+
+/** What an item claims about bounds, which a certificate has in units of the file's last decimal places. */
+function boundsInWords(item) {
+  const at = `at prices ${item.prices.join(", ")}`;
+  if (item.item === "welfare") {
+    const [lower, upper] = [item.lower, item.upper].map(boundInWords);
+    return `bounds on the money metric of observation ${item.observation} ${at}: ${lower} to ${upper}, in scaled units`;
+  }
+  const goods = item.goods.map(({ lower, upper }) => `${boundInWords(lower)} to ${boundInWords(upper)}`);
+  return `bounds of demand ${at} and expenditure ${item.expenditure}: ${goods.join("; ")}, in scaled units`;
+}
+
+/** What an item claims, with its index, share or bounds. */
+function claimOf(item, levels, hasOwnMoney) {
+  if (item.item === "efficiency") {
+    return `the CCEI is ${withDecimal(item.level)}, ${"at_ranks" in item ? "attained" : "not attained"}`;
+  }
+  if (item.item === "random" && "weights" in item) {
+    const share = shareOfParts(item);
+    return `no population of consumers with preferences makes these choices; the maximum share is ${share}`;
+  }
+  if ("goods" in item || (item.item === "welfare" && "upper" in item)) return boundsInWords(item);
+  const words = Object.entries(ITEM_WORDS[item.item] ?? {}).find(([member]) => member in item);
+  const said = words ? words[1] : item.item;
+  if (["garp", "afriat"].includes(item.item) && levels.length) return `${said} at the levels ${levelsInWords(levels)}`;
+  return item.item === "quasilinear" && hasOwnMoney
+    ? `${said} on the exchanged intercepts as prices of one unit of money, which says nothing about the data`
+    : said;
+}
 
 /** What the items of a certificate say, in words: of each its verdict, and whether it withholds it. */
-export function itemsInWords(text) {
-  return JSON.parse(text).items.map((item) => {
+export function itemsInWords(text, hasOwnMoney = false) {
+  const { items, levels = [] } = JSON.parse(text);
+  return items.map((item) => {
     if ("withheld" in item) return { says: `${item.item}: withheld`, isProved: false };
-    if (item.item === "efficiency") {
-      const how = "at_ranks" in item ? "attained" : "not attained";
-      return { says: `the CCEI is ${withDecimal(item.level)}, ${how}`, isProved: true };
-    }
-    const words = Object.entries(ITEM_WORDS[item.item] ?? {}).find(([member]) => member in item);
     const lacks = JSON.stringify(item).includes('"withheld"') ? ", but for those that it withholds" : "";
-    return { says: (words ? words[1] : item.item) + lacks, isProved: true };
+    return { says: claimOf(item, levels, hasOwnMoney) + lacks, isProved: true };
   });
 }
 
+/** The same of a certificate that was rejected, in which anything may stand: nothing where no claim can be read. */
+function claimsOf(text, hasOwnMoney) {
+  try {
+    return itemsInWords(text, hasOwnMoney);
+  } catch {
+    return [];
+  }
+}
+
 /** What the checker's answer means: of an accepted certificate each item, of a rejected one what it is worth. */
-export function checkInWords(output, text) {
+export function checkInWords(output, text, hasOwnMoney = false) {
   const rejected = /^rejected item (\d+) (\w+) place (\d+)/.exec(output);
   if (rejected) {
     const [item, reason] = [Number(rejected[1]), rejected[2]];
-    const claim = item ? itemsInWords(text)[item - 1]?.says : "";
+    const claim = item ? claimsOf(text, hasOwnMoney)[item - 1]?.says : "";
     const at = item && Number(rejected[3]) ? `Place ${rejected[3]} of item ${item}: ` : "";
     const where = item ? `Item ${item} is the first that does` : "The certificate as a whole does";
     return [
@@ -286,7 +351,7 @@ export function checkInWords(output, text) {
         "or make a new certificate and compare the two.",
     ];
   }
-  const items = itemsInWords(text);
+  const items = itemsInWords(text, hasOwnMoney);
   if (!items.length) return ["It has no items, so nothing is proved."];
   return items.map(({ says, isProved }, at) => {
     const how = isProved ? "proved" : "nothing is proved";

@@ -8,6 +8,18 @@ export class Runs {
   begin() {
     this.number += 1;
     const own = this.number;
-    return { isCurrent: () => own === this.number };
+    const isCurrent = () => own === this.number;
+    // The button that asks for a run may be gone when there is something to read, and then the focus belongs there.
+    let isPressed = false;
+    return {
+      isCurrent,
+      press: () => (isPressed = true),
+      /** Whether what is shown now is to take the focus: the first words of a run that was asked for by a button. */
+      takesFocus() {
+        const takes = isPressed && isCurrent();
+        isPressed = false;
+        return takes;
+      },
+    };
   }
 }

@@ -1,5 +1,5 @@
 /** A place for one file: dropped, chosen, pasted or an example; what was found of its form, and the columns' roles. */
-import { button, folded, freshId, keepFile, labelled, make, tableOf } from "./dom.js";
+import { button, drawAnew, folded, freshId, keepFile, labelled, make, tableOf } from "./dom.js";
 import { Mapping, ROLES, Sheet, lacksOf, otherThanText, placeInFile, placeInWords } from "./sheets.js";
 
 // How many records of a file are shown, and how many bytes are read unasked.
@@ -9,7 +9,8 @@ export class Slot {
   /**
    * `form` has the slot's key, its title, whether columns can be assigned, and its examples by name. `onChange` is
    * called
-   * before anything else is asked of the slot than was answered, `onReady` when its file is to be answered.
+   * before anything else is asked of the slot than was answered, `onReady` when its file is to be answered, with `true`
+   * where a button asked for it.
    */
   constructor(form, examples, { onChange, onReady }) {
     [this.form, this.examples, this.onChange, this.onReady] = [form, examples, onChange, onReady];
@@ -148,7 +149,8 @@ export class Slot {
     const preview = folded("The rows of the file", this.#preview(fault));
     preview.open = isOpen;
     const isFolded = this.isAsked && !isOpen;
-    this.body.replaceChildren(
+    drawAnew(
+      this.body,
       make("p", { textContent: size }),
       ...(fault ? [this.#fault(fault)] : []),
       ...(isFolded ? [folded("What the columns are, and what was changed", ...asked)] : asked),
@@ -285,7 +287,7 @@ export class Slot {
   #answer() {
     this.onChange(this);
     this.isTaken = true;
-    this.onReady(this);
+    this.onReady(this, true);
   }
 
   #go() {

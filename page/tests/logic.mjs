@@ -8,6 +8,7 @@ import { test } from "node:test";
 import { boundOf } from "./answers.js";
 import { atThresholds, drawBehaviours, shareInWords } from "./benchmark.js";
 import { wordsOf } from "./command.js";
+import { drawAnew } from "./dom.js";
 import { amountsOf, behaviour, drawnFile, words } from "./draws.js";
 import { commands, facts, limit, range, sentenceOf, unitsBy } from "./facts.js";
 import { boundRows } from "./panel_questions.js";
@@ -18,6 +19,7 @@ import {
   about,
   asNumber,
   checkInWords,
+  countsMean,
   cycleSentences,
   decimal,
   decimalOf,
@@ -93,14 +95,20 @@ test("what a checked certificate proves, item by item", () => {
     { item: "garp", cycle: [1, 2, 1] },
     { item: "efficiency", level: "4/5", at_ranks: [0, 1], below: [0, 1], above: [] },
     { item: "homothetic", withheld: [3, 1, 2] },
-    { item: "demand", goods: [{ lower: { withheld: 2 }, upper: {} }] },
+    {
+      item: "demand",
+      prices: ["2", "1"],
+      expenditure: "6",
+      goods: [{ lower: { withheld: 2 }, upper: { value: "7/2" } }, { lower: { value: "0" }, upper: { value: "3" } }],
+    },
   ];
   const text = JSON.stringify({ items, kind: "table", version: 1 });
   assert.deepEqual(checkInWords("accepted items 4 withheld 2\n", text), [
     "Item 1: GARP is violated: proved.",
     "Item 2: the CCEI is 4/5 (0.8), attained: proved.",
     "Item 3: homothetic: withheld: nothing is proved.",
-    "Item 4: bounds of demand on a new budget, but for those that it withholds: proved.",
+    "Item 4: bounds of demand at prices 2, 1 and expenditure 6: withheld to 7/2; 0 to 3, in scaled units, but for " +
+      "those that it withholds: proved.",
   ]);
   const rejected = checkInWords("rejected item 2 Shape place 0\n", text);
   assert.equal(rejected[0], "Item 2 claims: the CCEI is 4/5 (0.8), attained.");
@@ -109,6 +117,28 @@ test("what a checked certificate proves, item by item", () => {
   const order = checkInWords("rejected item 2 Order place 1\n", text);
   assert.equal(order[1], `Place 1 of item 2: ${sentenceOf("reason", "Order")}`);
   assert.match(checkInWords("rejected item 0 Levels place 1\n", text)[1], /^The certificate as a whole does not prove/);
+  // With levels the axiom is proved at these, and the share and the bounds stand in the certificate.
+  const accepted = (items, ownMoney = false, more = {}) =>
+    checkInWords(`accepted items ${items.length} withheld 0\n`, JSON.stringify({ items, ...more }), ownMoney);
+  const leveled = [{ item: "garp", ranks: [1, 2] }, { item: "afriat", cycle: [1, 1] }];
+  assert.deepEqual(accepted(leveled, false, { levels: [799, 1000] }), [
+    "Item 1: GARP holds at the levels 0.799, 1: proved.",
+    "Item 2: there are no Afriat numbers at the levels 0.799, 1: proved.",
+  ]);
+  const parts = [[[1, 4], "1"], [[2, 3], "2"]];
+  const [share] = accepted([{ den: "1", item: "random", parts, total: "4", weights: ["1", "0", "1", "0"] }]);
+  assert.match(share, /makes these choices; the maximum share is 3\/4 [(]0[.]75[)]: proved[.]$/);
+  const bounds = { lower: { value: "4" }, upper: "6", at: 1 };
+  const [welfare] = accepted([{ item: "welfare", observation: 2, prices: ["2", "2"], ...bounds }]);
+  assert.match(welfare, /of observation 2 at prices 2, 2: 4 to 6, in scaled units: proved/);
+  // Where intercepts are exchanged for prices, the quasilinear item is about these.
+  const sums = [{ item: "quasilinear", values: ["0", "0"] }];
+  assert.match(accepted(sums, true)[0], /which says nothing about the data: proved/);
+  assert.equal(accepted(sums)[0], "Item 1: the quasilinear test holds: proved.");
+  // A rejected certificate may have anything in it.
+  const wrong = { item: "random", weights: [], parts: [1], den: "0", total: "x" };
+  const broken = checkInWords("rejected item 1 Number place 1\n", JSON.stringify({ items: [wrong] }));
+  assert.match(broken.at(-1), /may be true or false/);
   const none = checkInWords("accepted items 0 withheld 0\n", '{"items":[]}');
   assert.deepEqual(none, ["It has no items, so nothing is proved."]);
 });
@@ -226,6 +256,51 @@ test("what was asked of one input shows nothing once another run has begun", () 
   assert.deepEqual([first.isCurrent(), second.isCurrent()], [false, true]);
 });
 
+test("the results take the focus once, where a button asked for the run", () => {
+  const runs = new Runs();
+  const dropped = runs.begin();
+  assert.ok(!dropped.takesFocus());
+  const pressed = runs.begin();
+  pressed.press();
+  assert.deepEqual([pressed.takesFocus(), pressed.takesFocus()], [true, false]);
+  pressed.press();
+  runs.begin();
+  assert.ok(!pressed.takesFocus());
+  assert.match(readFileSync(new URL("index.html", import.meta.url), "utf8"), /<h2 id="answers-head" tabindex="-1">/);
+});
+
+/** An element with fields, of which one may have the focus; `replaceChildren` puts these fields in their place. */
+function placeOf(fields, state) {
+  return {
+    querySelectorAll: () => fields.list,
+    replaceChildren: (...list) => {
+      if (fields.list.includes(state.activeElement)) state.activeElement = null;
+      fields.list = list;
+    },
+  };
+}
+
+test("a field that is drawn anew has the focus again, and no other one takes it", () => {
+  const state = { activeElement: null };
+  const field = (tagName, type) => {
+    const it = { tagName, type, focus: () => (state.activeElement = it) };
+    return it;
+  };
+  globalThis.document = state;
+  const fields = { list: [field("INPUT", "checkbox"), field("SELECT", "select-one")] };
+  const place = placeOf(fields, state);
+  fields.list[1].focus();
+  drawAnew(place, field("INPUT", "checkbox"), field("SELECT", "select-one"), field("BUTTON", "button"));
+  assert.equal(state.activeElement, fields.list[1]);
+  drawAnew(place, field("SUMMARY"), field("SUMMARY"));
+  assert.equal(state.activeElement, null);
+  const outside = field("BUTTON", "button");
+  outside.focus();
+  drawAnew(place, field("BUTTON", "button"));
+  assert.equal(state.activeElement, outside);
+  delete globalThis.document;
+});
+
 test("limits and ranges are those of the catalogue", () => {
   assert.deepEqual(range("power", "N"), [1, 1000]);
   assert.deepEqual(range("random", "--per"), [1, 1_000_000_000]);
@@ -335,6 +410,29 @@ test("a fault of a file names what is not ticked, and an empty cell", () => {
   const empty = { record: 1, column: 2, name: "q_a", cell: " " };
   assert.match(meansOf("BadNumber", empty), /^The cell is empty/);
   assert.doesNotMatch(meansOf("BadNumber", { ...empty, cell: "x" }), /is empty/);
+});
+
+test("choices with shares, or without the column n, say what to do", () => {
+  const means = (text, fault) => {
+    const sheet = new Sheet("choices.csv", bytesOf(text));
+    return countsMean(fault.fault, placeInFile(fault, sheet.records, null), sheet.header);
+  };
+  const shares = /If you have shares, multiply them by 1000, or by another power of 10, and round them[.]/;
+  const whole = means("budget,q_a,n\n1,2,0.25\n", { fault: "BadNumber", record: 1, column: 3 });
+  assert.match(whole, /^This is a count, so it is an integer[.]/);
+  assert.match(whole, shares);
+  for (const name of ["share", "Share", "count", "freq", "weights"]) {
+    const other = means(`budget,q_a,${name}\n1,2,0.25\n`, { fault: "BadHeader", record: 0, column: 3 });
+    assert.ok(other.startsWith(`The column ${name} is not read. Name it n if its integers`), other);
+    assert.match(other, shares);
+  }
+  const missing = means("budget,q_a\n1,2\n", { fault: "Unpaired", record: 0, column: 0 });
+  assert.match(missing, /^The column n is missing/);
+  // Other faults have the words of the catalogue.
+  assert.equal(means("budget,q_a,n\n1,0.25,1\n", { fault: "BadNumber", record: 1, column: 2 }), "");
+  assert.equal(means("budget,q_a,n\n1,2,x\n", { fault: "BadNumber", record: 1, column: 3 }), "");
+  assert.equal(means("budget,q_a,n,share\n1,2,1,1\n", { fault: "BadHeader", record: 0, column: 4 }), "");
+  assert.equal(means("budget,q_a,age\n1,2,1\n", { fault: "BadHeader", record: 0, column: 3 }), "");
 });
 
 test("semicolons with 0,5 and 1.234 in one file are asked about", () => {
