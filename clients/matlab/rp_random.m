@@ -2,7 +2,7 @@ function verdict = rp_random(p, w, budget, q, n, varargin)
 % RP_RANDOM  Tests random utility: could a population of utility maximizers have made these choices from budgets?
 %
 %   v = rp_random(p, w, budget, q, n)   p has a row of prices for each budget, and w its income. For each choice, budget has the
-%                                       number of its budget, q the bundle, and n the count
+%                                       number of its budget, q the bundle, and n the count: an integer, 1 for one person
 %   v = rp_random(.., 'Per', N)         rounds the shares of each budget to N units
 %   v = rp_random(.., 'Wide', false)    uses rp alone, which rejects choices with too many patches or types
 %

@@ -16,7 +16,15 @@ function rp_refuse(told, files)
   if strcmp(fault, 'BadNumber') && ~isempty(strfind(where, ', column e, '))
     meant = 'BadLevel';
   end
-  error(['rp:Refused:', fault], '%s%s%s', said, where, rp_hint(meant));
+  error(['rp:Refused:', fault], '%s%s%s%s', said, where, rp_hint(meant), rp_shares(where));
+end
+
+function hint = rp_shares(where)
+% What to do where a count of choices is a share.
+  hint = '';
+  if ~isempty(regexp(where, ' of choices\.csv, column n, value 0*\.\d*[1-9]', 'once'))
+    hint = ' If you have shares, multiply them by 1000, or by another power of 10, and round them.';
+  end
 end
 
 function where = rp_place(name, said, files)

@@ -72,6 +72,8 @@ same({levels.garp, levels.efficiency}, {true, '4/5'}, 'own levels');
 r = rp_random([1 2; 2 1], [4 4], [1 1 2 2], [2 1; 0 2; 1 2; 2 0], [1 3 2 2]);
 same({r.rational, r.share, r.types, r.parts, r.weights}, {false, '3/4', [1 4; 2 3], [0.25; 0.5], [1 0 1 0]}, 'random choices');
 same(r.wide, false, 'random choices that rp takes');
+refused(@() rp_random([1 2; 2 1], [4 4], [1 1 2 2], [2 1; 0 2; 1 2; 2 0], [0.25 0.75 0.5 0.5]), 'rp:Refused:BadNumber', ...
+  'If you have shares, multiply them by 1000');
 for own = {8, 'TooManyTypes'; 11, 'TooManyCombinations'; 13, 'TooManyPatches'}'
   [p, w, budget, q, n] = pairs(own{1}, [1 3 2 2]);
   refused(@() rp_random(p, w, budget, q, n, 'Wide', false), ['rp:Refused:', own{2}], 'rp-wide');
