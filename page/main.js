@@ -9,7 +9,7 @@ import { panelQuestions } from "./panel_questions.js";
 import { Panel, purchasesOf } from "./panels.js";
 import { tableQuestions } from "./questions.js";
 import { countsMean, meansOf, offeredSays, parseFault } from "./reports.js";
-import { Runs } from "./runs.js";
+import { Runs, workSays } from "./runs.js";
 import { Sheet, fitOf, longFiles, placeInFile, placeInWords, raggedRecord, splitHouseholds } from "./sheets.js";
 import { Slot } from "./slots.js";
 
@@ -110,8 +110,15 @@ function showsOf(own) {
     at("status").textContent = `${done} of ${all} ${what} done, ${(left / 1000).toFixed(0)} s left`;
   });
   const busy = only((isBusy) => (at("work").hidden = !isBusy));
-  /** Shows that work is going on, and hides it when it has ended or was stopped; what it gives is nothing then. */
-  const working = async (work) => {
+  /**
+   * Shows that work is going on, and hides it when it has ended or was stopped; what it gives is nothing then. With
+   * `saysTime` it is said how long the work takes, where it does not say itself how far it is.
+   */
+  const working = async (work, saysTime = false) => {
+    const began = performance.now();
+    const says = () => tell(workSays((performance.now() - began) / 1000));
+    if (saysTime) says();
+    const clock = saysTime ? setInterval(says, 5000) : 0;
     busy(true);
     try {
       return await work();
@@ -120,6 +127,7 @@ function showsOf(own) {
       tell(isStopped ? "Stopped. What was done by then is shown." : `No result: ${error.message}.`);
       return null;
     } finally {
+      clearInterval(clock);
       busy(false);
     }
   };
@@ -161,7 +169,7 @@ function refused(shows, told) {
 
 async function answerTable(slot, own) {
   const [file, shows, hasOwnMoney] = [slot.file, showsOf(own), Boolean(slot.mapping?.hasOwnMoney)];
-  const given = await shows.working(() => client.answer(["analyse", file.name], [file]));
+  const given = await shows.working(() => client.answer(["analyse", file.name], [file]), true);
   if (!given || !own.isCurrent()) return;
   if (given.status !== 0) {
     refused(shows, given.told);
@@ -230,7 +238,7 @@ async function answerOthers(own) {
   if (new Set(files.map((it) => it.name)).size < files.length) {
     files.forEach((it, place) => (it.name = `${slots[place].form.key}.csv`));
   }
-  const given = await shows.working(() => otherAnswers(client, kind.key, files, per.value));
+  const given = await shows.working(() => otherAnswers(client, kind.key, files, per.value), true);
   if (!given || !own.isCurrent()) return;
   if (given.answer.status !== 0) {
     refused(shows, given.answer.told);

@@ -1,3 +1,7 @@
+/** What is said while work goes on that has taken so many seconds. */
+export const workSays = (seconds) =>
+  seconds < 1 ? "Working. Stop ends it." : `Working for ${seconds.toFixed(0)} s. Stop ends it.`;
+
 /** Runs of the page: what was asked of one input writes nothing once another input has come. */
 export class Runs {
   constructor() {

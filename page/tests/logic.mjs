@@ -36,7 +36,7 @@ import {
   walkInWords,
 } from "./reports.js";
 import { COLUMNS, panelWords, rowAt, rowsOf, tableRecords } from "./rows.js";
-import { Runs } from "./runs.js";
+import { Runs, workSays } from "./runs.js";
 import {
   WIDE,
   costSays,
@@ -254,6 +254,11 @@ test("what was asked of one input shows nothing once another run has begun", () 
   assert.ok(first.isCurrent());
   const second = runs.begin();
   assert.deepEqual([first.isCurrent(), second.isCurrent()], [false, true]);
+});
+
+test("work that takes long says so, and how to end it", () => {
+  assert.equal(workSays(0.2), "Working. Stop ends it.");
+  assert.equal(workSays(65), "Working for 65 s. Stop ends it.");
 });
 
 test("the results take the focus once, where a button asked for the run", () => {
