@@ -35,10 +35,19 @@ rp_panel <- function(data, by = id, ask = c("test", "pump", "power"), decimals =
     own_money = sides$own_money, units = units, places = long$rows, sides = sides, offered = long$offered, numbers = numbers_line(long)
   ))
   # Why units have no verdicts is put into words where it is looked at.
-  delayedAssign("refusals", lapply(seq_along(long$rows), refusal), assign.env = own)
+  delayedAssign("refusals", lapply(seq_along(long$rows), function(at) of_unit(refusal(at), keys[at, , drop = FALSE])), assign.env = own)
   panel <- structure(panel_frame(own), class = c("rp_panel", "data.frame"), panel = own)
   if (!is.null(certificates)) keep_certificates(panel, certificates, exe, wide, workers, progress)
   panel
+}
+
+# Returns the error of a unit with the unit in front of it; a row without an id has no unit. NULL stays.
+of_unit <- function(wrong, key) {
+  if (is.null(wrong) || isTRUE(wrong$fault %in% c("NoId", "LongId"))) return(wrong)
+  unit <- paste(names(key), vapply(key, function(it) quoted(as.character(it)), ""), collapse = ", ")
+  wrong$unit <- unit
+  wrong$message <- paste0(unit, if (startsWith(wrong$message, "row ")) ", " else ": ", wrong$message)
+  wrong
 }
 
 # Returns what is known of a panel beside its columns.

@@ -166,9 +166,13 @@ draw_histogram <- function(own, breaks, xlab, ylab, main, has_spike = FALSE, ...
     graphics::rect(from, 0, from + 0.84 * width / length(own), shares[[side]][bins], col = ink[c("own", "other")][side], border = NA)
   }
   if (has_spike) {
+    # The bins end at 1, and the bar behind them is of an index of 1, so its tick is no part of the scale.
     ticks <- pretty(breaks[c(bins[1], last + 1)])
-    ticks <- ticks[ticks < 1 - width[1] / 2 & ticks >= left[1]]
-    graphics::axis(1, c(ticks, left[length(left)] + width[length(width)] / 2), c(format(ticks), "1"))
+    ticks <- ticks[ticks >= left[1] & ticks < breaks[last + 1] + width[1] / 4]
+    graphics::axis(1, ticks, ifelse(abs(ticks - 1) < 1e-9, "1", format(ticks)))
+    middle <- left[length(left)] + width[length(width)] / 2
+    graphics::axis(1, middle, FALSE)
+    graphics::mtext("exactly 1", 1, 1.9, at = middle, cex = graphics::par("cex") * graphics::par("cex.axis"))
   } else {
     graphics::axis(1)
   }

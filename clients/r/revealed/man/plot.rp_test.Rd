@@ -22,7 +22,7 @@ the index over units, beside the distribution of random behaviour.
 \item{type}{\code{"histogram"}: the share of units in each bin of the index. \code{"cumulative"}: how many units are at or below each
 value.}
 \item{breaks}{the ends of the bins. A bin includes its right end and excludes its left end; the first bin includes both. A CCEI of
-exactly 1 is in no bin, and has a bar of its own.}
+exactly 1 is in no bin. It has a bar of its own, with the label \dQuote{exactly 1}.}
 \item{names}{the names of the two panels in the legend. The default is what the units are called, and random behaviour.}
 \item{...}{passed to \code{plot.window}.}
 }

@@ -60,7 +60,7 @@ An \code{rp_panel}: a data frame with a row for each unit, in the order of first
 
 Beside its columns the result has \code{x$keys}, a data frame of \code{by}, and \code{x$texts}, a matrix of the fields that the
 program writes. The list \code{x$refusals} has, for each unit, \code{NULL} or the error in words, a condition of class
-\code{rp_error}.
+\code{rp_error}. Its message begins with the unit, which is its \code{unit} too.
 }
 \section{Methods and formulas}{
 The tests and the CCEI are those of \code{\link{rp_test}}, unit by unit. The money pump index is that of \code{\link{rp_money_pump}},

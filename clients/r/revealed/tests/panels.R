@@ -45,7 +45,12 @@ found <- rp_panel(mixed, "household", workers = 1)
 shown <- capture.output(print(found))
 stopifnot(length(shown) <= 13, any(shown == "2 with an error: BadNumber, the first 'h2'"), grepl("row 3, column 'q_a', value 'x'", conditionMessage(found$refusals[[2]])))
 said <- conditionMessage(rp_panel(long, "household", workers = 1)$refusals[[1]])
-stopifnot(grepl("at most 512 observations", said), !grepl("columns", said))
+stopifnot(grepl("^household 'A': One unit has at most 512 observations", said), !grepl("columns", said))
+# an error names its unit, and a row without an id has none
+stopifnot(startsWith(conditionMessage(found$refusals[[2]]), "household 'h2', row 3, column 'q_a', value 'x': "), found$refusals[[2]]$unit == "household 'h2'", is.null(found$refusals[[1]]))
+twice <- data.frame(town = c("a", "a", "b"), year = 1, obs = 1, p_a = 1, q_a = 1)
+said <- lapply(rp_panel(rbind(twice, transform(twice[3, ], town = "")), c("town", "year"), workers = 1)$refusals, function(it) if (!is.null(it)) conditionMessage(it))
+stopifnot(startsWith(said[[1]], "town 'a', year '1': rows 1 and 2 are both called 1"), is.null(said[[2]]), startsWith(said[[3]], "row "))
 # of budget lines by their intercepts no quasilinear verdict is told anywhere
 lines <- data.frame(s = c(1, 1), i_x = c("87.13", "45.50"), i_y = c("33.61", "62.04"), q_x = c("43.2", "20.1"), q_y = c("16.95", "34.63"))
 found <- rp_panel(lines, "s", workers = 1)
@@ -63,8 +68,18 @@ stopifnot(startsWith(conditionMessage(every), "all 3 subjects have one error, th
 caught(rp_panel(people, "subject", units = 3, workers = 1), "rp_bad_data")
 table <- as.character(rp_panel_table(found, thresholds = c("0.8", "0.81")))
 stopifnot(any(grepl("^CCEI of at least 0.80 +2 of 2", table)), any(grepl("^CCEI of at least 0.81 +1 of 2", table)), any(grepl("^CCEI, median +0.900", table)))
-# an index of exactly 1 is in a bin of its own
+# an index of exactly 1 is in a bin of its own, whose tick has a label of its own: the scale ends with the bins, at 1
 stopifnot(revealed:::shares_in(c(1, 0.999999, 0.9, 1), c(0.9, 0.95, 1), TRUE) == c(0.25, 0.25, 0.5))
+drawn <- function(name) Filter(function(it) identical(it[[1]]$name, name), lapply(recordPlot()[[1]], `[[`, 2))
+pdf(NULL)
+dev.control("enable")
+plot(found)
+scale <- drawn("C_axis")[[1]]
+spike <- drawn("C_axis")[[2]]
+words <- drawn("C_mtext")[[1]]
+stopifnot(all.equal(scale[[3]], seq(0.7, 1, 0.05)), identical(scale[[4]][c(1, 7)], c("0.70", "1")), identical(spike[[4]], FALSE), all.equal(spike[[3]], 1.05))
+stopifnot(words[[2]] == "exactly 1", all.equal(words[[6]], 1.05))
+invisible(dev.off())
 
 # the bounds of each unit at new prices are those of its own table
 new <- data.frame(x = 1:2, y = c(1, 1))
