@@ -262,11 +262,10 @@ class BoundsFrame(LongFrame):
         fault, *rest = fields
         at = {name: int(it) for name, it in zip(("record", "column"), rest) if it}
         if fault.startswith(OF_NEW):
-            found = UnitBounds(own.key, fault, lambda: self.new.refused(fault.removeprefix(OF_NEW), at))
-            return found
+            return UnitBounds(own.key, fault, partial(self.new.refused, fault.removeprefix(OF_NEW), at))
         if "record" in at:
             at["record"] = places[at["record"] - 1] + 1
-        found = UnitBounds(own.key, fault, lambda: self.refused(fault, at))
+        found = UnitBounds(own.key, fault, partial(self.refused, fault, at))
         found.record, found.column = at.get("record"), self.column_of(at["column"]) if "column" in at else None
         return found
 

@@ -10,6 +10,18 @@ from .exact import shown
 class Problem(Exception):
     """Every exception of this package."""
 
+    def __reduce__(self) -> tuple[Any, ...]:
+        # The arguments of an exception are its text, from which it is not made; what else it has is in its attributes.
+        return problem_again, (type(self), self.args, dict(self.__dict__))
+
+
+def problem_again(kind: type[Problem], args: Sequence[Any], own: dict[str, Any]) -> Problem:
+    """Returns the exception that was pickled or copied."""
+    found = kind.__new__(kind, *args)
+    found.args = tuple(args)
+    found.__dict__.update(own)
+    return found
+
 
 class BadData(Problem, ValueError):
     """The data, or an argument, do not have the right shape. The program was not run."""

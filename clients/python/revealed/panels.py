@@ -382,7 +382,7 @@ class LongFrame(Sheet):
         told = self.column_of(at["column"]) if "column" in at else None
         record = at.get("record")
         it.update(household=own.id, record="" if record is None else str(record), column="" if told is None else str(told))
-        return Row(own.key, [it[name] for name in COLUMNS], own, lambda: self.refused(it["fault"], at))
+        return Row(own.key, [it[name] for name in COLUMNS], own, partial(self.refused, it["fault"], at))
 
     def column_of(self, column: int) -> int | None:
         """Returns the number in the frame of a column of the long text; None where the frame has not it, as of levels by argument."""

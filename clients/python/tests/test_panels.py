@@ -1,7 +1,9 @@
 """What a panel does with ids, faults and answers; the call is the program that RP_PANEL names, or what stands beside RP_EXEC."""
 
+import copy
 import os
 import pathlib
+import pickle
 import random
 import subprocess
 import sys
@@ -97,6 +99,20 @@ class Faults(unittest.TestCase):
         self.assertIn("&lt;b&gt;", panel(frame(["<b>"] * 2))._repr_html_())
         self.assertIsInstance(found[:2], revealed.Panel)
         self.assertEqual([row.key for row in found[:2]], ["h0", "h1"])
+
+    def test_a_panel_can_be_pickled_and_copied(self):
+        d = frame(["A", "A", "B", "B", "C", "C"], obs=[1, 2, 1, 2, 1, 1], p_a=[1, 2, 1, 0, 1, 2])
+        found = panel(d, pump=True)
+        self.assertEqual([row.fault for row in found], [None, "ZeroPrice", "Pooled"])
+        bounds = revealed.panel_welfare(d, "household", [1, 1], progress=False)
+        for again in (pickle.loads(pickle.dumps(found)), copy.deepcopy(found), copy.copy(found)):
+            self.assertIs(type(again), revealed.Panel)
+            self.assertEqual((repr(again), again.csv(), again.asked), (repr(found), found.csv(), found.asked))
+            self.assertEqual([str(row.refusal) for row in again], [str(row.refusal) for row in found])
+            self.assertEqual((again[1].refusal.record, again[1].refusal.name, type(again[2].refusal)), (4, "p_a", revealed.Pooled))
+            self.assertTrue(revealed.verify(again["A"].verdict))
+        for again in (pickle.loads(pickle.dumps(bounds)), copy.deepcopy(bounds)):
+            self.assertEqual((again.csv(), [row.message for row in again]), (bounds.csv(), [row.message for row in bounds]))
 
     def test_certificates_are_kept_when_asked(self):
         d = frame(["A", "B,c", "B,c", "C"], p_a=[1, 1, 2, 0])

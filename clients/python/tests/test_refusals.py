@@ -1,8 +1,10 @@
 """What is refused, and what it says to do: rounding, levels, households, columns; crafted texts in every argument; programs that
 say something else. A refusal of data is the program's that RP_EXEC names."""
 
+import copy
 import os
 import pathlib
+import pickle
 import shutil
 import stat
 import sys
@@ -306,6 +308,29 @@ class Columns(unittest.TestCase):
         ):
             with self.assertRaises(revealed.Problem):
                 call()
+
+
+class Pickled(unittest.TestCase):
+    def test_every_error_can_be_pickled_and_copied(self):
+        calls = [
+            lambda: revealed.analyse([[0, 1]], [[1, 1]]),
+            lambda: revealed.analyse({"p_a": [1], "x": [2]}),
+            lambda: revealed.analyse([[1]], [[1]], exe="/no/such/program"),
+            lambda: revealed.analyse({"p_a": [1, 2], "q_a": [1, 2], "obs": [1, 1]}),
+            lambda: revealed.panel({"id": ["u"], "p_a": [0], "q_a": [1]}, "id", progress=False),
+            lambda: revealed.analyse({"i_a": [10], "i_b": [10], "q_a": [9], "q_b": [9]}),
+            lambda: revealed.check([[1]], "not_there.json"),
+        ]
+        for call in calls:
+            with self.assertRaises(revealed.Problem) as caught:
+                call()
+            wrong = caught.exception
+            for again in (pickle.loads(pickle.dumps(wrong)), copy.copy(wrong), copy.deepcopy(wrong)):
+                self.assertIs(type(again), type(wrong))
+                self.assertEqual((str(again), again.args, again.__dict__), (str(wrong), wrong.args, wrong.__dict__))
+        for wrong in (revealed.Failed(70, "stopped"), Unreadable("x", "why")):
+            again = pickle.loads(pickle.dumps(wrong))
+            self.assertEqual((type(again), str(again), again.status), (type(wrong), str(wrong), wrong.status))
 
 
 class Crafted(unittest.TestCase):
