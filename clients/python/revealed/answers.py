@@ -8,8 +8,8 @@ import re
 from fractions import Fraction
 from typing import Any, Callable, Iterable, Iterator, Sequence
 
-from . import exact
-from .catalogue import LIMITS
+from . import exact, verifier
+from .catalogue import LIMITS, sentence
 from .faults import BadData, Unreadable
 from .tables import OWN_MONEY, Choices, Sheet, Table
 
@@ -615,11 +615,15 @@ class Checked:
     A certificate without items, or with undetermined values alone, proves nothing. If the certificate is rejected, `item`, `reason` and
     `place` say what fails first. `wide` says whether `rp` itself rejects the data. The reason `Steps` means that there are more types than
     steps.
+
+    `says` has a line for each item of an accepted certificate: its verdict, with the index, and whether it is proved. If the
+    certificate is rejected, it says what the first item that fails claims, what is wrong with it, and what a rejection means.
     """
 
-    def __init__(self, line: str, certificate: bytes, wide: bool = False) -> None:
+    def __init__(self, line: str, certificate: bytes, wide: bool = False, own_money: bool = False) -> None:
         self.line = line.strip()
         self.wide = wide
+        self._own_money = own_money
         words = line.split()
         with reading(line.encode()):
             self.accepted = words[0] == "accepted"
@@ -631,9 +635,39 @@ class Checked:
             self.reason = None if self.accepted else words[3]
             self.place = None if self.accepted else int(words[5])
         self.proved = sum("withheld" not in item for item in Certificate(certificate).items) if self.accepted else 0
+        self.says = self._accepted_says(certificate) if self.accepted else self._rejected_says(certificate)
+
+    def _accepted_says(self, certificate: bytes) -> list[str]:
+        """Returns what each item says. The program read the certificate and accepted it, so the values are those that it looked at."""
+        own = items_told(certificate, self._own_money)
+        return [f"item {number} {told}: {'nothing is said' if 'withheld' in item else 'proved'}" for number, (item, told) in enumerate(own, 1)]
+
+    def _rejected_says(self, certificate: bytes) -> list[str]:
+        """Returns what the item that fails claims, why it fails, and what that means."""
+        try:
+            claims = items_told(certificate, self._own_money)
+        except Unreadable:
+            claims = []
+        item = self.item or 0
+        what = f"item {item} {claims[item - 1][1]}" if 0 < item <= len(claims) else f"item {item}" if item else "the certificate"
+        return [f"{what}: not proved. {sentence('reason', self.reason or '') or ''}".strip(), verifier.REJECTED]
 
     def __bool__(self) -> bool:
         return self.accepted and self.proved > 0
 
     def __repr__(self) -> str:
-        return self.line + (": nothing is proved" if self.accepted and not self.proved else "")
+        return "\n".join([self.line + (": nothing is proved" if self.accepted and not self.proved else ""), *self.says])
+
+
+# Items that add money of different rows, and what is said of their verdicts where the prices are intercepts exchanged.
+ADD_MONEY = ("quasilinear", "pump", "steps", "quasilinear_level")
+OF_PRICES = "on the exchanged intercepts as prices of one unit of money, which is not told of the data"
+
+
+def items_told(certificate: bytes, own_money: bool) -> list[tuple[dict[str, Any], str]]:
+    """Returns the items of a certificate, each with its verdict in words."""
+    own = Certificate(certificate)
+    with reading(certificate):
+        levels = json.loads(certificate).get("levels", ())
+        told = [(item, verifier.words.verdict_of(item, levels)) for item in own.items]
+    return [(item, f"{said} {OF_PRICES}" if own_money and item["item"] in ADD_MONEY else said) for item, said in told]

@@ -7,7 +7,8 @@ import os
 from typing import Any, Callable, Union
 
 from . import advice, exact, program, verifier
-from .answers import Answers, Certificate, Checked, Patch, RandomVerdict, Verdict, demands, patches_of, reading, utilities, walk_of, welfares
+from .answers import ADD_MONEY, OF_PRICES, Answers, Certificate, Checked, Patch, RandomVerdict, Verdict, demands, patches_of, reading, utilities
+from .answers import walk_of, welfares
 from .catalogue import DRAWS, PER, SEED, span
 from .faults import BadData, Failed, NoFile, Refused
 from .measures import CostMinimisation, MenuVerdict, MoneyPump, Power, Trial
@@ -295,7 +296,7 @@ def check(data: Any, certificate: Any, *, per: Any = None, exe: Any = None, wide
     words = ["check", TABLE] if TABLE in files else ["checkrandom", BUDGETS, CHOICES]
     ran, is_wide = program.of_choices([*words, CERTIFICATE, *_units(per)], files, exe, wide)
     if ran.status in (0, 1):
-        return Checked(ran.out, claimed, is_wide)
+        return Checked(ran.out, claimed, is_wide, TABLE in files and bool(getattr(_table_of(data), "own_money", False)))
     if ran.refusal is None:
         raise Failed(ran.status, ran.said)
     raise explain(*ran.refusal)
@@ -346,8 +347,8 @@ def told_of_prices(found: Findings) -> Findings:
     """Returns what was found of a table whose prices are intercepts exchanged: an item that adds money of different rows proves its
     verdict of these prices, and tells nothing of the data."""
     for item in found.items:
-        if item.kind in ("quasilinear", "pump", "steps", "quasilinear_level"):
-            item.says = f"{item.says} on the exchanged intercepts as prices of one unit of money, which is not told of the data"
+        if item.kind in ADD_MONEY:
+            item.says = f"{item.says} {OF_PRICES}"
     return found
 
 

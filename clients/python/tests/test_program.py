@@ -256,6 +256,26 @@ class Checks(unittest.TestCase):
         self.assertEqual((told.item, told.reason, told.place), (2, "Order", 1))
         self.assertEqual(revealed.verify(EXAMPLES / "contradiction.csv", EXAMPLES / "forged.json").rejected.number, 2)
 
+    def test_what_is_proved_is_told_item_by_item(self):
+        """With the index, the share, and the levels at which an item is proved; and what a rejection means."""
+        of_choices = ((EXAMPLES / "budgets.csv", EXAMPLES / "choices.csv"), EXAMPLES / "choices.json")
+        of_levels = (EXAMPLES / "levels.csv", EXAMPLES / "levels.json")
+        forged = (EXAMPLES / "contradiction.csv", EXAMPLES / "forged.json")
+        for checker in (revealed.check, revealed.verify):
+            self.assertEqual(repr(checker(*of_choices)).splitlines()[1:], ["item 1 random violated, maximum share 3/4: proved"])
+            said = repr(checker(*of_levels)).splitlines()
+            self.assertEqual(said[1:4:2], ["item 1 garp holds at the levels 0.799, 1: proved", "item 3 efficiency 4/5 attained yes: proved"])
+            said = repr(checker(*forged)).splitlines()
+            self.assertTrue(said[0].startswith("rejected"), said)
+            self.assertIn("item 2 efficiency 9/10 attained yes: not proved", said[-2])
+            self.assertIn("may be true or false", said[-1])
+        self.assertIn("The ranks or numbers break their inequality", repr(revealed.check(*forged)))
+        lines = {"i_x": [87.13, 45.5], "i_y": [33.61, 62.04], "q_x": [43.2, 20.1], "q_y": [16.95, 34.63]}
+        verdict = revealed.analyse(lines)
+        for checker in (revealed.check, revealed.verify):
+            own = [it for it in repr(checker(lines, verdict)).splitlines() if " quasilinear " in it]
+            self.assertEqual([it.count("not told of the data") for it in own], [1])
+
     def test_each_example_by_both(self):
         for name in ("contradiction", "cycle_of_three", "decimals", "experiment"):
             ran = subprocess.run([os.environ["RP_EXEC"], "certify", f"{name}.csv"], cwd=EXAMPLES, capture_output=True, stdin=subprocess.DEVNULL)

@@ -35,6 +35,10 @@ __all__ = [
 ]
 
 
+# What stands below a certificate of which an item fails.
+REJECTED = "What is not proved may be true or false: the certificate does not prove it on these data, or is of other data."
+
+
 class Finding:
     """What was found of one item: `proves` is True, False, or None where the item withholds its verdict. `says` is that verdict.
 
@@ -111,7 +115,8 @@ class Findings:
     def __repr__(self) -> str:
         told = "rejected" if not self.accepted else "accepted" if self.proved else "accepted, and nothing is proved"
         counts = f"items {len(self.items)} proved {self.proved} withheld {self.withheld}"
-        return "\n".join([f"{told}: {counts}" + (f", on {self.data}" if self.data else ""), *map(repr, self.items)])
+        lines = [f"{told}: {counts}" + (f", on {self.data}" if self.data else ""), *map(repr, self.items)]
+        return "\n".join(lines if self.accepted else [*lines, REJECTED])
 
 
 def verify_table(table: bytes, data: bytes) -> Findings:
@@ -123,7 +128,7 @@ def verify_table(table: bytes, data: bytes) -> Findings:
         found.append(Finding(0, "levels", False, other_levels(own.levels, levels), [], 0))
     for number, (item, remarks) in enumerate(items, 1):
         why, more, withheld = look_at(own, item, axiom_is_shown)
-        found.append(finding(number, item, why, remarks + more, withheld))
+        found.append(finding(number, item, why, remarks + more, withheld, own.levels))
         if item["item"] == "garp" and "ranks" in item and why is None:
             axiom_is_shown = True
     return Findings(found, observations_of(own))
@@ -237,9 +242,9 @@ def other_levels(own, levels):
     return f"the level of {place} is {own[place - 1]} in the table"
 
 
-def finding(number, item, why, remarks, withheld):
+def finding(number, item, why, remarks, withheld, levels=()):
     proves = False if why else None if "withheld" in item else True
-    says = "sums" if item["item"] == "sums" else words.verdict_of(item)
+    says = "sums" if item["item"] == "sums" else words.verdict_of(item, levels)
     return Finding(number, item["item"], proves, why, remarks, withheld, says)
 
 

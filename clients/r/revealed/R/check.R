@@ -5,7 +5,9 @@ rp_check <- function(data, certificate, per = NULL, levels = NULL, exe = NULL, w
   words <- c(of$command, names(of$files), "certificate.json", units_of(of$per))
   of$files$certificate.json <- certificate_bytes(certificate)
   given <- ask_choices(words, of$files, engine_of(exe), of$sheets, wide, good = 0:1)
-  reading(given$text, checked_from(given$text, given$is_wide))
+  checked <- reading(given$text, checked_from(given$text, given$is_wide))
+  checked$says <- check_says(checked, text_of_bytes(of$files$certificate.json), isTRUE(of$sheets[[1]]$own_money))
+  checked
 }
 
 rp_checkrandom <- function(budgets, choices, certificate, per = NULL, exe = NULL, wide = TRUE) {
@@ -24,7 +26,56 @@ checked_from <- function(text, is_wide = FALSE) {
 
 print.rp_checked <- function(x, ...) {
   cat(x$line, if (x$accepted && x$items == 0) ": it has no items, and nothing is proved", "\n", sep = "")
+  if (length(x$says)) writeLines(x$says)
   invisible(x)
+}
+
+# Returns a line for each item of an accepted certificate, whose values are those that the program looked at; of a rejected one what the
+# item that fails claims, why it fails, and what that means.
+check_says <- function(checked, text, own_money) {
+  found <- tryCatch(read_json(text), error = function(wrong) list())
+  told <- tryCatch(vapply(found$items, item_says, "", levels = found$levels, own_money = own_money), error = function(wrong) character())
+  if (checked$accepted) {
+    withheld <- vapply(found$items, function(it) "withheld" %in% names(it), TRUE)
+    return(if (length(told)) paste0("item ", seq_along(told), " ", told, ": ", ifelse(withheld, "nothing is said", "proved")) else character())
+  }
+  what <- if (checked$item == 0) "the certificate" else paste("item", checked$item)
+  if (checked$item > 0 && checked$item <= length(told)) what <- paste(what, told[checked$item])
+  why <- sentence(checked$reason, "reason")
+  c(paste0(what, ": not proved.", if (!is.na(why)) paste0(" ", why)), rejection_means)
+}
+
+rejection_means <- "What is not proved may be true or false: the certificate does not prove it on these data, or is of other data."
+
+# Returns the verdict of an item in a few words, as Python's `verify` has it.
+item_says <- function(item, levels = NULL, own_money = FALSE) {
+  kind <- item$item
+  has <- function(name) name %in% names(item)
+  if (has("withheld")) return(paste(kind, "withheld"))
+  bound <- function(it) if ("withheld" %in% names(it)) "withheld" else it$value
+  if (kind == "efficiency") return(paste("efficiency", item$level, "attained", if (has("at_ranks")) "yes" else "no"))
+  if (kind == "random") return(if (has("weights")) paste("random violated, maximum share", share_made(item)) else "random mixture")
+  if (kind %in% c("demand", "welfare") && has("cycle")) return(paste(kind, "none, since the axiom is violated"))
+  if (kind == "demand") {
+    return(paste("demand", paste(vapply(item$goods, function(it) paste(bound(it$lower), "to", bound(it$upper)), ""), collapse = ", "), "(scaled)"))
+  }
+  if (kind == "welfare") return(paste("welfare of", item$observation, bound(item$lower), "to", item$upper, "(scaled)"))
+  said <- paste(kind, if (has("cycle")) "violated" else "holds")
+  if (kind %in% c("garp", "afriat") && length(levels)) said <- paste0(said, " at the levels ", levels_told(levels))
+  if (kind == "quasilinear" && own_money) said <- paste(said, "on the exchanged intercepts as prices of one unit of money, which is not told of the data")
+  said
+}
+
+# Returns levels in thousandths as shares, the first eight of them.
+levels_told <- function(levels) {
+  told <- paste(sprintf("%g", as.numeric(utils::head(levels, 8)) / 1000), collapse = ", ")
+  if (length(levels) > 8) paste(told, "and", length(levels) - 8, "more") else told
+}
+
+# Returns the share of all choices that the parts of an item make.
+share_made <- function(item) {
+  made <- sum_of(vapply(item$parts, function(it) as.character(it[[2]]), ""))
+  fraction(made, digits_of(product(limbs(item$den), limbs(item$total))))
 }
 
 # Returns the files of some data: an answer, a table, or the names of files; or budgets and choices.

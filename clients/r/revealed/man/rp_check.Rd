@@ -31,6 +31,8 @@ An \code{rp_checked}, a list with these elements:
 \item{items, withheld}{if accepted: the number of items, and how many of their values are undetermined.}
 \item{item, reason, place}{if rejected: the first item that fails, why, and where.}
 \item{wide}{whether \code{rp} itself rejects the data, and \code{rp-wide} checked them.}
+\item{says}{if accepted: a line for each item, with its verdict and index. If rejected: what the first item that fails
+claims, what is wrong with it, and what a rejection means. \code{print} shows these lines.}
 }
 \section{Methods and formulas}{
 Each item is checked by its definition. Ranks prove that GARP holds and a cycle proves that it is violated (Varian 1982). Numbers
