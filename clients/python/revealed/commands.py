@@ -224,7 +224,8 @@ def random(
     `budget` or `obs`, or its own index, use the value there.
 
     `per` rounds the shares of each budget to this number of units. The shares are taken as exact, so False is not a statistical
-    rejection. Choices with too many patches or types for `rp` are tested by `rp-wide`; `wide=False` uses `rp` alone.
+    rejection. Choices with too many patches or types for `rp` are tested by `rp-wide`; `wide=False` uses `rp` alone. This test can take
+    more than an hour. A terminal or a notebook says how long it has worked. Ctrl-C ends its process, and there is no result.
 
     References:
         Kitamura, Y. and Stoye, J. (2018). Nonparametric Analysis of Random Utility Models. Econometrica 86, 1883-1909.

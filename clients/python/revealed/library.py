@@ -10,18 +10,22 @@ from __future__ import annotations
 
 import ctypes
 import os
+import pickle
 import sys
 import threading
 import warnings
 from typing import Any, Mapping, Sequence
 
-from .faults import NoProgram
+from . import worker
+from .faults import Failed, NoProgram
 
 VARIABLE = "RP_LIBRARY"
 NAME = "rp.dll" if sys.platform == "win32" else "librp.so"
 # What the system's loader is asked for.
 LOADED = [NAME] if sys.platform == "win32" else [NAME, "librp.so.0"]
 ROOM = 65_536
+# What a process of its own runs: the wider call of a library over what standard input has.
+APART = "import sys; sys.path.insert(0, sys.argv[1]); from revealed.library import serve; serve()"
 # Statuses that the program has not, and what is said of them.
 SAID = {
     8: b"the arguments of the call do not fit together",
@@ -62,6 +66,19 @@ class Library:
         """Returns the same of the wider call, which the library has to have."""
         return self._called(self.wider, words, files)
 
+    def run_wide_apart(self, program: str, words: Sequence[str], files: Mapping[str, bytes]) -> tuple[int, bytes, bytes]:
+        """Returns the same of the wider call, which may take long, by a process of its own: Ctrl-C ends that, and cannot end a call in
+        this one. Where no process of Python can be started, the call is made here."""
+        if not sys.executable:
+            return self.run_wide(program, words, files)
+        package = os.path.dirname(os.path.dirname(os.path.abspath(__file__)))
+        given = pickle.dumps((self.path, list(words), dict(files)))
+        status, out, said = worker.waited([sys.executable, "-c", APART, package], "rp-wide", given=given)
+        if status != 0:
+            raise Failed(status, said.decode("utf-8", "replace").strip().rpartition("\n")[2])
+        found: tuple[int, bytes, bytes] = pickle.loads(out)
+        return found
+
     def run_panel(self, program: str, words: Sequence[str], files: Mapping[str, bytes]) -> tuple[int, bytes, bytes]:
         """Returns the same of the call of panels, which the library has to have."""
         return self._called(self.panels, words, files)
@@ -83,6 +100,12 @@ class Library:
                 output, told = (ctypes.string_at(room, length.value) for length, room in zip(lengths, rooms))
                 return status, output, told
             rooms = [ctypes.create_string_buffer(max(len(room), length.value)) for length, room in zip(lengths, rooms)]
+
+
+def serve() -> None:
+    """Makes the wider call of a library over what standard input has, and writes how it ended to standard output."""
+    path, words, files = pickle.load(sys.stdin.buffer)
+    sys.stdout.buffer.write(pickle.dumps(Library(path).run_wide(path, words, files)))
 
 
 class OtherVersion(UserWarning):

@@ -214,16 +214,18 @@ def of_choices(words: Sequence[str], files: Mapping[str, bytes], exe: Any = None
     ran = call(words, files, exe)
     if not switch(wide, "wide") or not wider.is_refused(words[0], ended_of(ran)):
         return ran, False
-    more = call_wide(words, files, exe)
+    more = call_wide(words, files, exe, is_long=True)
     return (ran, False) if more is None else (more, True)
 
 
-def call_wide(words: Sequence[str], files: Mapping[str, bytes], exe: Any = None) -> Ran | None:
-    """Returns how a call of the wider edition ended; None where that is not there."""
+def call_wide(words: Sequence[str], files: Mapping[str, bytes], exe: Any = None, is_long: bool = False) -> Ran | None:
+    """Returns how a call of the wider edition ended; None where that is not there. One that may take long can be interrupted."""
     found = wide_way(exe)
     if found is None:
         return None
     run, path = found
+    if run is not None and is_long:
+        run = library.known(path).run_wide_apart
     try:
         return ran_of(*(run or worker.run)(path, words, files))
     except OSError as wrong:

@@ -112,12 +112,20 @@ class Dll:
 
 started = []
 
-def start(words, **how):
-    started.append((words, how))
-    return subprocess.CompletedProcess(words, 4, b"", b"rp: table.csv: TooLong")
+class Start:
+    returncode = 4
+
+    def __init__(self, words, **how):
+        started.append((words, how))
+
+    def communicate(self, given, timeout):
+        return b"", b"rp: table.csv: TooLong"
+
+    def poll(self):
+        return self.returncode
 
 where = lambda name, *more: next((it for it in (os.path.join(at, str(name)) for at in [*os.environ["PATH"].split(os.pathsep), ""]) if os.path.isfile(it)), None)
-sys.platform, ctypes.CDLL, shutil.which, subprocess.run = "win32", Dll, where, start
+sys.platform, ctypes.CDLL, shutil.which, subprocess.Popen = "win32", Dll, where, Start
 import revealed
 from revealed import library, program
 assert (library.NAME, program.NAME) == ("rp.dll", "rp.exe")

@@ -231,7 +231,7 @@ ask_choices <- function(words, files, engine, sheets, wide, good = 0) {
   if (!is_switch(wide)) bad_data("wide is TRUE or FALSE")
   ran <- answer(words, files, engine)
   other <- if (wide && is_refused(ran)) wide_engine(engine)
-  if (!is.null(other)) ran <- answer(words, files, other)
+  if (!is.null(other)) ran <- long_answer(words, files, other)
   list(text = text_of(ran, sheets, good), is_wide = !is.null(other))
 }
 
