@@ -225,7 +225,7 @@ def random(
 
     `per` rounds the shares of each budget to this number of units. The shares are taken as exact, so False is not a statistical
     rejection. Choices with too many patches or types for `rp` are tested by `rp-wide`; `wide=False` uses `rp` alone. This test can take
-    more than an hour. A terminal or a notebook says how long it has worked. Ctrl-C ends its process, and there is no result.
+    more than an hour. A terminal or a notebook says how long it has worked. Ctrl-C ends its process without a result.
 
     References:
         Kitamura, Y. and Stoye, J. (2018). Nonparametric Analysis of Random Utility Models. Econometrica 86, 1883-1909.

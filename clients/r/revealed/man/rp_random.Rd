@@ -40,7 +40,7 @@ Patches are counted from 1, budget by budget. Within a budget the first choice o
 \code{\link{rp_patches}} shows on which side of every budget each patch lies. \code{rp_random_utility} is the same call.
 
 The search of \code{rp-wide} can take more than an hour. On a terminal and in RStudio, R says how long it has worked. Ctrl-C or Esc
-ends its process, and there is no result. On Windows the call cannot be interrupted.
+ends its process without a result. On Windows the call cannot be interrupted.
 }
 \value{
 An \code{rp_random}, a list with these elements:
