@@ -278,6 +278,7 @@ class Texts(unittest.TestCase):
         good = certificate(RANKS)
         self.assertTrue(verify_table(APART, good))
         self.assertTrue(verify_table(APART, good.replace(b'"kind"', b'"kind": 7, "kind"')))
+        self.assertTrue(verify_table(APART, good.replace(b'"kind"', b'"kind": %d, "kind"' % (2**1024 - 2**970 - 1))))
         for text, number in [
             (b"", 0),
             (good[:-1], 0),
@@ -291,6 +292,10 @@ class Texts(unittest.TestCase):
             # a name that stands twice: its first value counts for nothing, and is JSON all the same
             (good.replace(b'"kind"', b'"kind": ' + b"[" * 200 + b"]" * 200 + b', "kind"'), 0),
             (good.replace(b'"kind"', b'"kind": "\\ud800", "kind"'), 0),
+            # a number past the greatest float is no JSON, also where it is whole and counts for nothing
+            (good.replace(b'"kind"', b'"kind": %d, "kind"' % (2**1024 - 2**970)), 0),
+            (good.replace(b'"kind"', b'"kind": -1' + b"0" * 5000 + b', "kind"'), 0),
+            (good.replace(b"[1, 1]", b"[1, 1%s]" % (b"0" * 309)), 0),
             (good.replace(b'"table"', b'"random"'), 0),
             (good.replace(b'"version": 1', b'"version": 2'), 0),
             (good.replace(b'"version": 1', b'"version": 3'), 0),

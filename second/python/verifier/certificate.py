@@ -295,10 +295,12 @@ def _value(data):
 
 
 def _whole(text):
-    return _float(text) if text == "-0" else int(text)
+    own = _float(text)
+    return own if text == "-0" else int(text)
 
 
 def _float(text):
+    """Returns a number that is not written as a whole one. Past the greatest float a text spells no number, whole or not."""
     if isinf(float(text)):
         raise ValueError("a number is past the greatest float")
     return _NoWhole(text)
