@@ -3,7 +3,12 @@
 #![tactic(auto)]
 
 mod homothetic_level;
+mod logarithm;
+mod low;
 mod quasilinear_level;
+mod rounds;
+mod steps;
+mod totals;
 
 pub use homothetic_level::search_homothetic_level;
 pub use quasilinear_level::search_quasilinear_level;
