@@ -39,17 +39,32 @@ let read limit reader name =
 let numbers_of reader name = read 4_194_304 reader name
 let certificate_of reader name = read 16_777_216 reader name
 
+let rejected item why place =
+  let place = Z.min place (Z.of_string "4294967295") in
+  (1, Printf.sprintf "rejected item %s %s place %s\n" (Z.to_string item) (reason_word why) (Z.to_string place))
 let answer = function
   | Accepted (items, withheld) ->
       (0, Printf.sprintf "accepted items %s withheld %s\n" (Z.to_string items) (Z.to_string withheld))
-  | Rejected (item, why, place) ->
-      let place = Z.min place (Z.of_string "4294967295") in
-      (1, Printf.sprintf "rejected item %s %s place %s\n" (Z.to_string item) (reason_word why) (Z.to_string place))
+  | Rejected (item, why, place) -> rejected item why place
   | NoTable -> raise (Ended (4, "no table"))
+(* Of a certificate on goodness of fit, as rp-wide checkfit has it: nothing is withheld there. *)
+let answer_on_fit = function
+  | Accepted (items, _) -> (0, Printf.sprintf "accepted items %s\n" (Z.to_string items))
+  | other -> answer other
+
+(* A certificate on a table, whose own kind says which it is. *)
+type on_table = On_tests of certificate | On_fit of fit_item list
+let certificate_on table_name tb name =
+  if is_fit (bytes_of (read_file 16_777_216 name)) then begin
+    if tb.levels <> [] then raise (Ended (4, table_name ^ ": OwnLevels"));
+    On_fit (certificate_of read_fit name)
+  end else On_tests (certificate_of read_certificate name)
 
 let check_table table_name certificate_name =
   let tb = numbers_of read_table table_name in
-  check_certificate tb (certificate_of read_certificate certificate_name)
+  match certificate_on table_name tb certificate_name with
+  | On_tests certificate -> answer (check_certificate tb certificate)
+  | On_fit items -> answer_on_fit (check_fit tb items)
 
 let check_random budgets_name choices_name certificate_name per =
   let goods, offers = numbers_of read_budgets budgets_name in
@@ -59,39 +74,30 @@ let check_random budgets_name choices_name certificate_name per =
   | Refused why -> raise (Ended (4, fault_line (refusal_fault why)))
   | Prepared shares -> check_choices shares (certificate_of read_random certificate_name)
 
-(* The theorems that an accepted certificate on goodness of fit gives. *)
-let theorem_of_fit table_name table_text certificate_name certificate_text =
-  ignore (numbers_of read_table table_name);
-  match judge_fit (bytes_of table_text) (bytes_of certificate_text) with
-  | Some (tb, claims) ->
-      (0, Theorem.write_fit ~table_name ~table_text ~certificate_name ~certificate_text tb claims)
-  | None -> (1, "rejected fit\n")
-
-(* The theorems that an accepted certificate on a table gives. *)
-let theorem table_name certificate_name =
-  let table_text = read_file 4_194_304 table_name and certificate_text = read_file 16_777_216 certificate_name in
-  match read_fit (bytes_of certificate_text) with
-  | Inr _ -> theorem_of_fit table_name table_text certificate_name certificate_text
-  | Inl _ ->
-      let tb = numbers_of read_table table_name and certificate = certificate_of read_certificate certificate_name in
-      match check_certificate tb certificate with
-      | Accepted _ ->
-          (0, Theorem.write ~table_name ~table_text ~certificate_name ~certificate_text tb
-              (List.map claim_of certificate.items))
+(* The theorems that an accepted certificate gives, on a table or on the table of a unit of a long file. *)
+let theorem_of ?of_unit table_name table_text tb certificate_name =
+  let certificate_text = read_file 16_777_216 certificate_name in
+  let write claims = (0, Theorem.write ?of_unit ~table_name ~table_text ~certificate_name ~certificate_text tb claims) in
+  match certificate_on table_name tb certificate_name with
+  | On_tests certificate ->
+      (match check_certificate tb certificate with
+       | Accepted _ -> write (Theorem.On_tests (List.map claim_of certificate.items))
+       | other -> answer other)
+  | On_fit items ->
+      match check_fit tb items with
+      | Accepted _ -> write (Theorem.On_fit (List.map (fit_claim_of tb) items))
       | other -> answer other
+
+let theorem table_name certificate_name =
+  let table_text = read_file 4_194_304 table_name in
+  theorem_of table_name table_text (numbers_of read_table table_name) certificate_name
 
 (* The same of one unit of a long file. *)
 let theorem_of_unit id_name id long_name certificate_name =
-  let long_text = read_file 67_108_864 long_name and certificate_text = read_file 16_777_216 certificate_name in
+  let long_text = read_file 67_108_864 long_name in
   match read_unit (bytes_of id_name) (bytes_of id) (bytes_of long_text) with
   | None -> raise (Ended (4, long_name ^ ": no table of this unit"))
-  | Some tb ->
-      let certificate = certificate_of read_certificate certificate_name in
-      match check_certificate tb certificate with
-      | Accepted _ ->
-          (0, Theorem.write ~of_unit:(id_name, id) ~table_name:long_name ~table_text:long_text ~certificate_name
-              ~certificate_text tb (List.map claim_of certificate.items))
-      | other -> answer other
+  | Some tb -> theorem_of ~of_unit:(id_name, id) long_name long_text tb certificate_name
 
 (* The same of random choices; their shares are taken as they are, or rounded to units of 1/N. *)
 let theorem_of_choices budgets_name choices_name certificate_name per =
@@ -118,7 +124,7 @@ let theorem_of_pairs table_name =
   let table_text = read_file 4_194_304 table_name in
   ignore (numbers_of read_table table_name);
   match judge_pairs (bytes_of table_text) with
-  | Some ((tb, pairs), counts) -> (0, Theorem.write_pairs ~table_name ~table_text tb pairs counts)
+  | Some (tb, (pairs, counts)) -> (0, Theorem.write_pairs ~table_name ~table_text tb pairs counts)
   | None -> raise (Ended (4, "no table"))
 
 let pump_of name =
@@ -182,8 +188,9 @@ let theorem_of_cost production_name result_name =
   | None, Some _ -> (1, "rejected cost\n")
   | None, None -> raise (Ended (4, production_name ^ ": no production"))
 
-(* Choices from menus as theorems, from what `rp menus` writes of them. *)
-let theorem_of_menus menus_name result_name =
+(* Choices from menus as theorems, from what `rp menus` writes of them; their shares are taken as they are, or rounded
+   to units of 1/N. *)
+let theorem_of_menus menus_name result_name per =
   let menus_text = read_file 4_194_304 menus_name in
   let picks = match read_menus (bytes_of menus_text) with
     | Some picks -> picks
@@ -216,15 +223,20 @@ let theorem_of_menus menus_name result_name =
          | _ -> failwith "")
     | _ -> failwith "" in
   let evidence = try evidence () with Failure _ | Invalid_argument _ -> raise (Ended (4, result_name ^ ": NoMenus")) in
-  match judge_menus (bytes_of menus_text) evidence with
-  | Some (picks, claim) -> (0, Theorem.write_menus ~menus_name ~menus_text picks evidence claim)
+  let bytes = bytes_of menus_text in
+  let judged = match per with
+    | None -> Option.map (fun (picks, claim) -> (picks, None, claim)) (judge_menus bytes evidence)
+    | Some n ->
+        Option.map (fun (picks, (rounded, claim)) -> (picks, Some (n, rounded), claim)) (judge_menus_rounded n bytes evidence) in
+  match judged with
+  | Some (picks, rounded, claim) -> (0, Theorem.write_menus ~menus_name ~menus_text picks rounded evidence claim)
   | None -> (1, "rejected menus\n")
 
 let usage =
   "usage: rp-second TABLE CERT\n       rp-second BUDGETS CHOICES CERT [--per N]\n       rp-second --theorem TABLE CERT\n"
   ^ "       rp-second --theorem BUDGETS CHOICES CERT [--per N]\n       rp-second --theorem --pairs TABLE\n"
   ^ "       rp-second --theorem --pump TABLE RESULT\n       rp-second --theorem --cost TECH [RESULT]\n"
-  ^ "       rp-second --theorem --menus FILE RESULT\n       rp-second --theorem --panel LONG ID CERT [--id NAME]"
+  ^ "       rp-second --theorem --menus FILE RESULT [--per N]\n       rp-second --theorem --panel LONG ID CERT [--id NAME]"
 
 (* The names of files, and N: `--per N` or `--per=N` anywhere, and after `--` all words are names. *)
 let rec words_of names per = function
@@ -244,7 +256,10 @@ let answer_to words =
   | [ "--theorem"; "--pairs"; table ] when table <> "" -> theorem_of_pairs table
   | [ "--theorem"; "--panel"; long; id; certificate ] -> theorem_of_unit "household" id long certificate
   | [ "--theorem"; "--panel"; long; id; certificate; "--id"; name ] -> theorem_of_unit name id long certificate
-  | [ "--theorem"; "--menus"; menus; result ] when menus <> "" && result <> "" -> theorem_of_menus menus result
+  | "--theorem" :: "--menus" :: rest ->
+      (match words_of [] None rest with
+       | Some ([ menus; result ], per) -> theorem_of_menus menus result per
+       | _ -> raise (Ended (2, "")))
   | [ "--theorem"; "--cost"; production ] when production <> "" -> theorem_of_cost production None
   | [ "--theorem"; "--cost"; production; result ] when production <> "" && result <> "" ->
       theorem_of_cost production (Some result)
@@ -255,7 +270,7 @@ let answer_to words =
       | Some ([ table; certificate ], None) when theorems -> theorem table certificate
       | Some ([ budgets; choices; certificate ], per) when theorems -> theorem_of_choices budgets choices certificate per
       | _ when theorems -> raise (Ended (2, ""))
-      | Some ([ table; certificate ], None) -> answer (check_table table certificate)
+      | Some ([ table; certificate ], None) -> check_table table certificate
       | Some ([ budgets; choices; certificate ], per) -> answer (check_random budgets choices certificate per)
       | _ -> raise (Ended (2, ""))
 

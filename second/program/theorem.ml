@@ -72,99 +72,35 @@ let claim_text = function
   | Nothing -> "Nothing"
 
 let goods = "(goods observed)"
-let own = "(table_choices observed (by_own observed))"
-let all = "(table_choices observed (full observed))"
 
-let demanded name p m bounds =
-  let about good bound which value step =
-    let stated who n side =
-      (sprintf "%s_good_%d_%s_%s" name (good + 1) bound n,
-       sprintf "%s (%s observed %s %s) %d %s" which who (numbers p) (number m) good (fraction value),
-       sprintf "%s (proj2 (proj2 (proj2 it)) %d%%nat _ _ _ eq_refl (%s eq_refl))" step good side) in
-    [ stated "bought_by_some" "of_consumers" "or_introl"; stated "bought_by_utility" "of_utilities" "or_intror" ] in
-  List.concat (List.mapi (fun good (lower, upper) ->
-      (match lower with Some v -> about good "lower" "infimum_of" v "proj1" | None -> [])
-      @ (match upper with Some v -> about good "upper" "supremum_of" v "proj2" | None -> []))
-    bounds)
-
-let stated claim =
-  match claim with
-  | GarpHolds ->
-      [ ("garp_holds", "garp observed (by_own observed)", "proj1 it");
-        ("some_consumer_rationalizes", sprintf "rationalizable %s %s" goods own, "proj2 it") ]
-  | GarpViolated ->
-      [ ("garp_violated", "~ garp observed (by_own observed)", "proj1 it");
-        ("no_consumer_rationalizes", sprintf "irrational %s %s" goods own, "proj2 it") ]
+(* What a claim states of the table itself. *)
+let stated = function
+  | GarpHolds -> [ ("garp_holds", "garp observed (by_own observed)", "it") ]
+  | GarpViolated -> [ ("garp_violated", "~ garp observed (by_own observed)", "it") ]
   | AfriatNumbers (u, l) ->
       let u = folded "      " (List.map number u) and l = folded "      " (List.map number l) in
       [ ("afriat_numbers", sprintf "afriat_model observed (by_own observed)\n    (fun s => nth s %s 0)\n    (fun s => nth s %s 0)" u l,
-         "proj1 it");
-        ("rationalized_by_utility",
-         sprintf "exists u, least_allowed observed (by_own observed)\n    %s\n    %s u /\\\n    utility %s u /\\ increasing %s u /\\ concave %s u /\\ rationalizes %s (by_utility u) %s"
-           u l goods goods goods goods own, "proj2 it") ]
-  | NoAfriatNumbers ->
-      [ ("no_afriat_numbers", "forall U L, ~ afriat_model observed (by_own observed) U L", "proj1 it");
-        ("afriat_no_consumer", sprintf "irrational %s %s" goods own, "proj2 it") ]
+         "it") ]
+  | NoAfriatNumbers -> [ ("no_afriat_numbers", "forall U L, ~ afriat_model observed (by_own observed) U L", "it") ]
   | EfficiencyIs (e, attained) ->
       let e = fraction e in
-      let at = sprintf "(table_choices observed (at_level observed %s))" e in
       [ ("efficiency_is", sprintf "efficiency_index observed %s" e, "proj1 it");
-        ("efficiency_divides", sprintf "divides observed %s" e, "proj1 (proj2 it)") ]
-      @ if attained then
-          [ ("efficiency_attained", sprintf "garp_at observed %s" e, "proj1 (proj2 (proj2 it))");
-            ("efficiency_some_consumer", sprintf "rationalizable %s %s" goods at, "proj2 (proj2 (proj2 it))") ]
-        else
-          [ ("efficiency_not_attained", sprintf "~ garp_at observed %s" e, "proj1 (proj2 (proj2 it))");
-            ("efficiency_no_consumer", sprintf "irrational %s %s" goods at, "proj2 (proj2 (proj2 it))") ]
-  | HomotheticHolds ->
-      [ ("homothetic_test_holds", "homothetic_test observed", "proj1 it");
-        ("rationalized_by_homogeneous_utility",
-         sprintf "exists u, utility %s u /\\ increasing %s u /\\ concave %s u /\\\n    homogeneous %s u /\\ rationalizes %s (by_utility u) %s"
-           goods goods goods goods goods all, "proj2 it") ]
-  | HomotheticViolated ->
-      [ ("homothetic_test_violated", "~ homothetic_test observed", "proj1 it");
-        ("no_homothetic_consumer",
-         sprintf "forall prefers, preference %s prefers -> homothetic %s prefers ->\n    monotone %s prefers \\/ nonsatiated %s prefers -> ~ rationalizes %s prefers %s"
-           goods goods goods goods goods all, "proj2 it") ]
-  | QuasilinearHolds ->
-      [ ("quasilinear_test_holds", "quasilinear_test observed", "proj1 it");
-        ("rationalized_by_worth_in_money",
-         sprintf "exists v, utility %s v /\\ increasing %s v /\\ concave %s v /\\\n    rationalizes_with_money %s v %s"
-           goods goods goods goods all, "proj2 it") ]
-  | QuasilinearViolated ->
-      [ ("quasilinear_test_violated", "~ quasilinear_test observed", "proj1 it");
-        ("no_worth_in_money", sprintf "forall v, ~ rationalizes_with_money %s v %s" goods all, "proj2 it") ]
-  | DemandBounds (p, m, bounds) ->
-      ("demand_some_consumer", sprintf "exists x, bought_by_utility observed %s %s x" (numbers p) (number m),
-       "proj1 (proj2 (proj2 it))") :: demanded "demand" p m bounds
-  | DemandViolated -> [ ("demand_no_consumer", sprintf "irrational %s %s" goods all, "it") ]
-  | WelfareBounds (p, t, lower, upper, s) ->
-      let p = numbers p in
-      let consumer body =
-        sprintf "forall prefers, preference %s prefers ->\n    monotone %s prefers \\/ nonsatiated %s prefers -> rationalizes %s prefers %s ->\n    %s"
-          goods goods goods goods all body in
-      ("welfare_upper_bound",
-       sprintf "dot %s (bought observed %d) = %s /\\ (%s)" p s (number upper)
-         (consumer (sprintf "prefers (whole (bought observed %d)) (whole (bought observed %d))" s t)),
-       "conj (proj1 (proj2 it)) (fun prefers h w r => proj2 (proj2 (proj2 it) prefers h w r))")
-      :: (match lower with
-          | None -> []
-          | Some v ->
-              [ ("welfare_lower_bound",
-                 consumer (sprintf "forall x, bundle %s x -> prefers x (whole (bought observed %d)) -> Qle %s (costs_at %s x)"
-                   goods t (fraction v) p),
-                 "fun prefers h w r => proj1 (proj2 (proj2 it) prefers h w r)") ])
-  | WelfareViolated -> [ ("welfare_no_consumer", sprintf "irrational %s %s" goods all, "it") ]
-  | Nothing -> []
+        ((if attained then "efficiency_attained" else "efficiency_not_attained"),
+         sprintf "%sgarp_at observed %s" (if attained then "" else "~ ") e, "proj2 it") ]
+  | HomotheticHolds -> [ ("homothetic_test_holds", "homothetic_test observed", "it") ]
+  | HomotheticViolated -> [ ("homothetic_test_violated", "~ homothetic_test observed", "it") ]
+  | QuasilinearHolds -> [ ("quasilinear_test_holds", "quasilinear_test observed", "it") ]
+  | QuasilinearViolated -> [ ("quasilinear_test_violated", "~ quasilinear_test observed", "it") ]
+  | WelfareBounds (p, _, _, upper, s) ->
+      [ ("welfare_upper_bound", sprintf "dot %s (bought observed %d) = %s" (numbers p) s (number upper), "it") ]
+  | DemandBounds _ | DemandViolated | WelfareViolated | Nothing -> []
 
 (* What a claim states of people over every ordered field, and how it follows. *)
 let stated_over claim =
   let held = "(held_over K (by_own observed))" and spent = "(spent_over K observed)" in
   let some = sprintf "rationalizable_over K observed %s" and none = sprintf "irrational_over K observed %s" in
-  let wants = sprintf "monotone_over K %s prefers \\/ nonsatiated_over K %s prefers" goods goods in
   let consumer body =
-    sprintf "forall prefers, preference_over K %s prefers ->\n    %s ->\n    rationalizes_over K observed %s prefers ->%s"
-      goods wants spent body in
+    sprintf "forall prefers, consumer_over K %s prefers ->\n    rationalizes_over K observed %s prefers ->%s" goods spent body in
   match claim with
   | GarpHolds -> [ ("some_consumer_over", some held, "it") ]
   | GarpViolated -> [ ("no_consumer_over", none held, "it") ]
@@ -182,8 +118,8 @@ let stated_over claim =
            goods goods goods spent, "it") ]
   | HomotheticViolated ->
       [ ("no_homothetic_consumer_over",
-         sprintf "forall prefers, preference_over K %s prefers -> homothetic_over K %s prefers ->\n    %s -> ~ rationalizes_over K observed %s prefers"
-           goods goods wants spent, "it") ]
+         sprintf "forall prefers, consumer_over K %s prefers -> homothetic_over K %s prefers ->\n    ~ rationalizes_over K observed %s prefers"
+           goods goods spent, "it") ]
   | QuasilinearHolds ->
       [ ("worth_in_money_over",
          sprintf "exists v, increasing_over K %s v /\\ concave_over K %s v /\\ worth_over K observed v" goods goods, "it") ]
@@ -203,14 +139,14 @@ let stated_over claim =
            bounds)
   | WelfareBounds (p, t, lower, _, s) ->
       ("welfare_upper_bound_over", consumer (sprintf " prefers (bought_over K observed %d) (bought_over K observed %d)" s t),
-       "fun prefers h w r => proj2 (proj2 it prefers h w r)")
+       "fun prefers c r => proj2 (proj2 it prefers c r)")
       :: (match lower with
           | None -> []
           | Some v ->
               [ ("welfare_lower_bound_over",
                  consumer (sprintf "\n    forall x, bundle_over K %s x -> prefers x (bought_over K observed %d) ->\n    at_most K (fraction_over K %s) (costs_over K %s x)"
                    goods t (fraction v) (numbers p)),
-                 "fun prefers h w r => proj1 (proj2 it prefers h w r)") ])
+                 "fun prefers c r => proj1 (proj2 it prefers c r)") ])
   | DemandViolated -> [ ("demand_no_consumer_over", none spent, "it") ]
   | WelfareViolated -> [ ("welfare_no_consumer_over", none spent, "it") ]
   | Nothing -> []
@@ -260,122 +196,7 @@ let say_table out tb =
   rows "observed_quantities" tb.quantities;
   say "Definition observed : table := Table observed_prices observed_quantities %s.\n" (numbers tb.levels)
 
-let write ?of_unit ~table_name ~table_text ~certificate_name ~certificate_text tb claims =
-  let out = Buffer.create 65536 in
-  let say form = say_to out form in
-  (* Of a table alone; or of a unit of a long file, by the name of the column of ids and by its id. *)
-  let what, modules, judge, denotes, sound, claim, over =
-    match of_unit with
-    | None ->
-        (sprintf "the table %s" (comment table_name), "Judge SpecOver OverClaims Reals", "judge table_file",
-         "denotes table_file", "judged_table", "judge_claim", "judge_claim_over")
-    | Some (id_name, id) ->
-        (sprintf "the unit %s of %s" (comment id) (comment table_name), "JudgePanel Reals",
-         "judge_unit id_name id table_file", "unit_denotes id_name id table_file", "unit_denoted", "unit_claim",
-         "unit_claim_over") in
-  head out (sprintf "%s, from the certificate %s" what (comment certificate_name)) modules;
-  say "(* The bytes of both files. *)";
-  say "Definition table_file : bytes := %s.\n" (literal table_text);
-  say "Definition certificate_file : bytes := %s.\n" (literal certificate_text);
-  (match of_unit with
-   | None -> ()
-   | Some (id_name, id) ->
-       say "(* The name of the column of ids, and the unit's id. *)";
-       say "Definition id_name : bytes := %s." (literal id_name);
-       say "Definition id : bytes := %s.\n" (literal id));
-  say_table out tb;
-  say "Definition claims : list claim := [%s].\n" (String.concat ";\n  " (List.map claim_text claims));
-  say "Lemma judged : %s certificate_file = Some (observed, claims)." judge;
-  say "Proof. vm_cast_no_check (eq_refl (Some (observed, claims))). Qed.\n";
-  say "(* The table is what the bytes denote, and they denote no other. *)";
-  say "Theorem table_denoted : %s observed /\\" denotes;
-  say "  forall other, %s other -> other = observed." denotes;
-  say "Proof. exact (%s judged). Qed.\n" sound;
-  let fresh = fresh_names () and names = ref [ "table_denoted" ] in
-  List.iteri (fun k it ->
-      List.iter (fun (name, statement, proof) ->
-          let name = fresh name in
-          names := name :: !names;
-          say "Theorem %s : %s." name statement;
-          say "Proof. pose (it := %s judged %d%%nat eq_refl). exact (%s). Qed.\n" claim k proof)
-        (stated it))
-    claims;
-  say "(* What they say of people whose goods are divided as any ordered field has it. *)";
-  let with_reals = ref [] in
-  List.iteri (fun k it ->
-      List.iter (fun (name, statement, proof) ->
-          let name = fresh name in
-          names := name :: !names;
-          with_reals := (name ^ " reals") :: !with_reals;
-          say "Theorem %s : forall K, %s." name statement;
-          say "Proof. intros K. pose (it := %s judged %d%%nat eq_refl K). exact (%s). Qed.\n" over k proof)
-        (stated_over it))
-    claims;
-  foot out !names !with_reals;
-  Buffer.contents out
-
-(* ---- a table without a certificate ---- *)
-
 let whole_numbers l = if l = [] then "(@nil nat)" else listed string_of_int l ^ "%nat"
-
-(* A file about a table alone: a definition of what was found, how it is judged, and theorems. *)
-let write_of_table ~what ~table_text tb definition judged stated =
-  let out = Buffer.create 65536 in
-  let say form = say_to out form in
-  head out what "JudgeTable FitRatios";
-  say "(* The bytes of the table. *)";
-  say "Definition table_file : bytes := %s.\n" (literal table_text);
-  say_table out tb;
-  say "%s\n" definition;
-  let call, found = judged in
-  say "Lemma judged : %s = Some %s." call found;
-  say "Proof. vm_cast_no_check (eq_refl (Some %s)). Qed.\n" found;
-  let names = ref [] in
-  List.iter (fun (name, statement, proof) ->
-      names := name :: !names;
-      say "Theorem %s : %s." name statement;
-      say "Proof. exact (%s). Qed.\n" proof)
-    stated;
-  foot out !names [];
-  Buffer.contents out
-
-let table_denoted sound =
-  ("table_denoted", "denotes table_file observed /\\ forall other, denotes table_file other -> other = observed",
-   sprintf "proj1 (%s judged)" sound)
-
-(* The pairs of observations that contradict each other, and how many there are by each axiom. *)
-let write_pairs ~table_name ~table_text tb pairs counts =
-  let related = "weak observed (by_own observed) s t /\\ strict observed (by_own observed) t s" in
-  let within = "(s < size observed)%nat /\\ (t < size observed)%nat" in
-  let all = "proj2 (judge_pairs_sound judged)" in
-  let counted = [ ("garp_pairs_are", "pairs_in", "garp_pair"); ("garp_observations_are", "observations_in", "garp_pair");
-                  ("wgarp_pairs_are", "pairs_in", "wgarp_pair"); ("warp_pairs_are", "pairs_in", "warp_pair");
-                  ("sarp_pairs_are", "pairs_in", "sarp_pair") ] in
-  let rec sides k l = if k = 0 then l else sprintf "proj2 (%s)" (sides (k - 1) l) in
-  let count k (name, how, of_) =
-    let from = sides k "judge_counts_sound judged" in
-    (name, sprintf "%s observed (%s observed) %d" how of_ (List.nth counts k), if k = 4 then from else sprintf "proj1 (%s)" from) in
-  write_of_table ~what:(sprintf "the pairs of the table %s" (comment table_name)) ~table_text tb
-    (sprintf "(* Pairs of observations, counted from 0. *)\nDefinition pairs : list (nat * nat) := %s%%nat."
-       ("[" ^ String.concat "; " (List.map (fun (s, t) -> sprintf "(%d, %d)" s t) pairs) ^ "]"))
-    ("judge_pairs table_file", sprintf "(observed, pairs, %s)" (whole_numbers counts))
-    ([ table_denoted "judge_pairs_sound";
-       ("contradicting_pairs", sprintf "forall s t, In (s, t) pairs <-> %s /\\\n  %s"
-          within related, all) ]
-     @ (if pairs = [] then
-          [ ("no_two_contradict", sprintf "forall s t, ~ (%s /\\\n  %s)" within related, sprintf "fun s t => proj2 (%s s t)" all) ]
-        else [])
-     @ if counts = [] then [] else List.mapi count counted)
-
-(* The money pump index, from a cycle that has it and values that bound all others. *)
-let write_pump ~table_name ~table_text tb e index =
-  write_of_table ~what:(sprintf "the money pump of the table %s" (comment table_name)) ~table_text tb
-    (sprintf "(* The part of a cycle's expenditure that the next bundles cost; the cycle, from 0; values of the observations. *)\n"
-     ^ sprintf "Definition evidence : ratio_evidence := RatioEvidence %s %s %s\n  %s." (number e.ratio_num) (number e.ratio_den)
-         (whole_numbers e.ratio_walk) (folded "    " (List.map number e.ratio_values)))
-    ("judge_pump table_file evidence", sprintf "(observed, %s)" (fraction index))
-    [ table_denoted "judge_pump_sound";
-      ("money_pump_is", sprintf "pump_index observed %s" (fraction index), "proj2 (proj2 (judge_pump_sound judged))") ]
 
 (* ---- goodness of fit ---- *)
 
@@ -450,43 +271,135 @@ let stated_fit_over = function
          "fun e prefers v p w r => proj2 it e prefers v (conj p w) r") ]
   | _ -> []
 
-let write_fit ~table_name ~table_text ~certificate_name ~certificate_text tb claims =
+(* What is claimed of a table by a certificate, and what has to be said of it: what the claims are, how they stand in
+   the file, and what each states, alone and of people over every ordered field. *)
+type claims = On_tests of claim list | On_fit of fit_claim list
+let all_stated = function
+  | On_tests l -> ("claim", List.map claim_text l, List.map stated l, List.map stated_over l)
+  | On_fit l -> ("fit_claim", List.map fit_claim_text l, List.map stated_fit l, List.map stated_fit_over l)
+
+let write ?of_unit ~table_name ~table_text ~certificate_name ~certificate_text tb claims =
   let out = Buffer.create 65536 in
   let say form = say_to out form in
-  head out (sprintf "the goodness of fit of the table %s, from the certificate %s" (comment table_name)
-      (comment certificate_name)) "JudgeFit Reals";
+  (* Of a table alone; or of a unit of a long file, by the name of the column of ids and by its id. *)
+  let what, denotes =
+    match of_unit with
+    | None -> (sprintf "the table %s" (comment table_name), "denotes table_file")
+    | Some (id_name, id) ->
+        (sprintf "the unit %s of %s" (comment id) (comment table_name), "unit_denotes id_name id table_file") in
+  let modules, judge, sound, claim, over =
+    match of_unit, claims with
+    | None, On_tests _ ->
+        ("Judge SpecOver OverClaims Reals", "judge table_file", "judged_table", "judge_claim", "judge_claim_over")
+    | None, On_fit _ -> ("JudgeFit Reals", "judge_fit table_file", "fit_denoted", "judged_fit", "judged_fit_over")
+    | Some _, On_tests _ ->
+        ("JudgePanel Reals", "judge_unit id_name id table_file", "unit_denoted", "unit_claim", "unit_claim_over")
+    | Some _, On_fit _ ->
+        ("JudgePanel Reals", "judge_unit_fit id_name id table_file", "unit_fit_denoted", "unit_fit_claim",
+         "unit_fit_claim_over") in
+  let kind, texts, alone, of_people = all_stated claims in
+  let what = match claims with On_tests _ -> what | On_fit _ -> "the goodness of fit of " ^ what in
+  head out (sprintf "%s, from the certificate %s" what (comment certificate_name)) modules;
   say "(* The bytes of both files. *)";
   say "Definition table_file : bytes := %s.\n" (literal table_text);
   say "Definition certificate_file : bytes := %s.\n" (literal certificate_text);
+  (match of_unit with
+   | None -> ()
+   | Some (id_name, id) ->
+       say "(* The name of the column of ids, and the unit's id. *)";
+       say "Definition id_name : bytes := %s." (literal id_name);
+       say "Definition id : bytes := %s.\n" (literal id));
   say_table out tb;
   say "(* Observations count from 0. *)";
-  say "Definition claims : list fit_claim := [%s].\n" (String.concat ";\n  " (List.map fit_claim_text claims));
-  say "Lemma judged : judge_fit table_file certificate_file = Some (observed, claims).";
+  say "Definition claims : list %s := [%s].\n" kind (String.concat ";\n  " texts);
+  say "Lemma judged : %s certificate_file = Some (observed, claims)." judge;
   say "Proof. vm_cast_no_check (eq_refl (Some (observed, claims))). Qed.\n";
   say "(* The table is what the bytes denote, and they denote no other. *)";
-  say "Theorem table_denoted : denotes table_file observed /\\ forall other, denotes table_file other -> other = observed.";
-  say "Proof. exact (fit_denoted judged). Qed.\n";
-  let fresh = fresh_names () and names = ref [ "table_denoted" ] and over = ref [] in
-  List.iteri (fun k claim ->
+  say "Theorem table_denoted : %s observed /\\" denotes;
+  say "  forall other, %s other -> other = observed." denotes;
+  say "Proof. exact (%s judged). Qed.\n" sound;
+  let fresh = fresh_names () and names = ref [ "table_denoted" ] in
+  List.iteri (fun k ->
       List.iter (fun (name, statement, proof) ->
           let name = fresh name in
           names := name :: !names;
           say "Theorem %s : %s." name statement;
-          say "Proof. pose (it := judged_fit judged %d%%nat eq_refl). exact (%s). Qed.\n" k proof)
-        (stated_fit claim))
-    claims;
+          say "Proof. pose (it := %s judged %d%%nat eq_refl). exact (%s). Qed.\n" claim k proof))
+    alone;
   say "(* What they say of people whose goods are divided as any ordered field has it. *)";
-  List.iteri (fun k claim ->
+  let with_reals = ref [] in
+  List.iteri (fun k ->
       List.iter (fun (name, statement, proof) ->
           let name = fresh name in
           names := name :: !names;
-          over := (name ^ " reals") :: !over;
+          with_reals := (name ^ " reals") :: !with_reals;
           say "Theorem %s : forall K, %s." name statement;
-          say "Proof. intros K. pose (it := judged_fit_over judged %d%%nat eq_refl K). exact (%s). Qed.\n" k proof)
-        (stated_fit_over claim))
-    claims;
-  foot out !names !over;
+          say "Proof. intros K. pose (it := %s judged %d%%nat eq_refl K). exact (%s). Qed.\n" over k proof))
+    of_people;
+  foot out !names !with_reals;
   Buffer.contents out
+
+(* ---- a table without a certificate ---- *)
+
+
+(* A file about a table alone: a definition of what was found, how it is judged, and theorems. *)
+let write_of_table ~what ~table_text tb definition judged stated =
+  let out = Buffer.create 65536 in
+  let say form = say_to out form in
+  head out what "JudgeTable FitRatios";
+  say "(* The bytes of the table. *)";
+  say "Definition table_file : bytes := %s.\n" (literal table_text);
+  say_table out tb;
+  say "%s\n" definition;
+  let call, found = judged in
+  say "Lemma judged : %s = Some %s." call found;
+  say "Proof. vm_cast_no_check (eq_refl (Some %s)). Qed.\n" found;
+  let names = ref [] in
+  List.iter (fun (name, statement, proof) ->
+      names := name :: !names;
+      say "Theorem %s : %s." name statement;
+      say "Proof. exact (%s). Qed.\n" proof)
+    stated;
+  foot out !names [];
+  Buffer.contents out
+
+let table_denoted sound =
+  ("table_denoted", "denotes table_file observed /\\ forall other, denotes table_file other -> other = observed",
+   sprintf "proj1 (%s judged)" sound)
+
+(* The pairs of observations that contradict each other, and how many there are by each axiom. *)
+let write_pairs ~table_name ~table_text tb pairs counts =
+  let related = "weak observed (by_own observed) s t /\\ strict observed (by_own observed) t s" in
+  let within = "(s < size observed)%nat /\\ (t < size observed)%nat" in
+  let all = "proj2 (judge_pairs_sound judged)" in
+  let counted = [ ("garp_pairs_are", "pairs_in", "garp_pair"); ("garp_observations_are", "observations_in", "garp_pair");
+                  ("wgarp_pairs_are", "pairs_in", "wgarp_pair"); ("warp_pairs_are", "pairs_in", "warp_pair");
+                  ("sarp_pairs_are", "pairs_in", "sarp_pair") ] in
+  let rec sides k l = if k = 0 then l else sprintf "proj2 (%s)" (sides (k - 1) l) in
+  let count k (name, how, of_) =
+    let from = sides k "judge_counts_sound judged" in
+    (name, sprintf "%s observed (%s observed) %d" how of_ (List.nth counts k), if k = 4 then from else sprintf "proj1 (%s)" from) in
+  write_of_table ~what:(sprintf "the pairs of the table %s" (comment table_name)) ~table_text tb
+    (sprintf "(* Pairs of observations, counted from 0. *)\nDefinition pairs : list (nat * nat) := %s%%nat."
+       ("[" ^ String.concat "; " (List.map (fun (s, t) -> sprintf "(%d, %d)" s t) pairs) ^ "]"))
+    ("judge_pairs table_file", sprintf "(observed, (pairs, %s))" (whole_numbers counts))
+    ([ table_denoted "judge_pairs_sound";
+       ("contradicting_pairs", sprintf "forall s t, In (s, t) pairs <-> %s /\\\n  %s"
+          within related, all) ]
+     @ (if pairs = [] then
+          [ ("no_two_contradict", sprintf "forall s t, ~ (%s /\\\n  %s)" within related, sprintf "fun s t => proj2 (%s s t)" all) ]
+        else [])
+     @ if counts = [] then [] else List.mapi count counted)
+
+(* The money pump index, from a cycle that has it and values that bound all others. *)
+let write_pump ~table_name ~table_text tb e index =
+  write_of_table ~what:(sprintf "the money pump of the table %s" (comment table_name)) ~table_text tb
+    (sprintf "(* The part of a cycle's expenditure that the next bundles cost; the cycle, from 0; values of the observations. *)\n"
+     ^ sprintf "Definition evidence : ratio_evidence := RatioEvidence %s %s %s\n  %s." (number e.ratio_num) (number e.ratio_den)
+         (whole_numbers e.ratio_walk) (folded "    " (List.map number e.ratio_values)))
+    ("judge_pump table_file evidence", sprintf "(observed, %s)" (fraction index))
+    [ table_denoted "judge_pump_sound";
+      ("money_pump_is", sprintf "pump_index observed %s" (fraction index), "proj2 (proj2 (judge_pump_sound judged))") ]
 
 (* ---- producers ---- *)
 
@@ -580,39 +493,60 @@ let write_production ~production_name ~production_text plans questions found =
 
 (* ---- menus ---- *)
 
-let write_menus ~menus_name ~menus_text picks e claim =
+let write_menus ~menus_name ~menus_text picks rounded e claim =
   let out = Buffer.create 65536 in
   let say form = say_to out form in
-  head out (sprintf "the choices from menus %s" (comment menus_name)) "JudgeMenus Reals";
+  head out (sprintf "the choices from menus %s" (comment menus_name))
+    (if rounded = None then "JudgeMenus Reals" else "RoundedMenus Reals");
   say "(* The bytes of the file. *)";
   say "Definition menus_file : bytes := %s.\n" (literal menus_text);
+  let listed_picks name l =
+    say "Definition %s : list pick := [\n  %s].\n" name (String.concat ";\n  "
+        (List.map (fun p -> sprintf "Pick %s %s %s" (numbers p.pick_menu) (number p.pick_choice) (number p.pick_times)) l)) in
   say "(* Of each record the menu, what was chosen, and how many times; letters by their bytes. *)";
-  say "Definition observed : list pick := [\n  %s].\n" (String.concat ";\n  "
-      (List.map (fun p -> sprintf "Pick %s %s %s" (numbers p.pick_menu) (number p.pick_choice) (number p.pick_times)) picks));
+  listed_picks "observed" picks;
+  (match rounded with
+   | None -> ()
+   | Some (n, l) ->
+       say "(* The same in units of 1/%s of each menu, by largest remainders; people are claimed to make these. *)" (number n);
+       listed_picks "rounded" l);
   say "(* Rankings with their weights, and weights of what was chosen. *)";
   say "Definition evidence : menus_evidence := MenusEvidence %s [%s] %s [%s].\n" (number e.parts_den)
     (String.concat ";\n  " (List.map (fun (v, o) -> sprintf "(%s, %s)" (number v) (numbers o)) e.ranking_parts)) (number e.dual_den)
     (String.concat ";\n  "
        (List.map (fun ((m, x), w) -> sprintf "(%s, %s, %s)" (numbers m) (number x) (number w)) e.chosen_weights));
   let claimed = match claim with SomeRankings -> "SomeRankings" | NoRankings v -> sprintf "(NoRankings %s)" (fraction v) in
-  say "Lemma judged : judge_menus menus_file evidence = Some (observed, %s)." claimed;
-  say "Proof. vm_cast_no_check (eq_refl (Some (observed, %s))). Qed.\n" claimed;
+  let judge, found, sound, made =
+    match rounded with
+    | None -> ("judge_menus", sprintf "(observed, %s)" claimed, "judge_menus_sound judged", "observed")
+    | Some (n, _) ->
+        (sprintf "judge_menus_rounded %s" (number n), sprintf "(observed, (rounded, %s))" claimed,
+         "judge_menus_rounded_sound judged", "rounded") in
+  say "Lemma judged : %s menus_file evidence = Some %s." judge found;
+  say "Proof. vm_cast_no_check (eq_refl (Some %s)). Qed.\n" found;
   say "(* The choices are what the bytes denote, and they denote no other. *)";
   say "Theorem menus_are : menus_denote menus_file observed /\\";
   say "  forall other, menus_denote menus_file other -> other = observed.";
-  say "Proof. exact (proj1 (judge_menus_sound judged)). Qed.\n";
-  say "(* What is said of populations whose weights are numbers of any ordered field. *)";
+  say "Proof. exact (proj1 (%s)). Qed.\n" sound;
   let names = ref [ "menus_are" ] and over = ref [] in
+  (match rounded with
+   | None -> ()
+   | Some (n, _) ->
+       names := "choices_rounded" :: !names;
+       say "Theorem choices_rounded : rounded_choices %s observed rounded." (number n);
+       say "Proof. exact (proj1 (proj2 (%s))). Qed.\n" sound);
+  say "(* What is said of populations whose weights are numbers of any ordered field. *)";
+  let it = if rounded = None then sprintf "proj2 (%s) K" sound else sprintf "proj2 (proj2 (%s)) K" sound in
   List.iter (fun (name, statement, proof) ->
       names := name :: !names;
       over := (name ^ " reals") :: !over;
       say "Theorem %s : forall K, %s." name statement;
-      say "Proof. intros K. pose (it := proj2 (judge_menus_sound judged) K). exact (%s). Qed.\n" proof)
+      say "Proof. intros K. pose (it := %s). exact (%s). Qed.\n" it proof)
     (match claim with
-     | SomeRankings -> [ ("rationalized", "rationalized_by_rankings K observed", "it") ]
+     | SomeRankings -> [ ("rationalized", sprintf "rationalized_by_rankings K %s" made, "it") ]
      | NoRankings v ->
-         [ ("not_rationalizable", "not_rationalizable_by_rankings K observed", "proj1 it");
-           ("greatest_share_is", sprintf "greatest_share_of_rankings K observed %s" (fraction v), "proj2 it") ]);
+         [ ("not_rationalizable", sprintf "not_rationalizable_by_rankings K %s" made, "proj1 it");
+           ("greatest_share_is", sprintf "greatest_share_of_rankings K %s %s" made (fraction v), "proj2 it") ]);
   foot out !names !over;
   Buffer.contents out
 
@@ -643,8 +577,7 @@ let denoted_choices offers rounded =
      ^ "  forall names' offers', budgets_denote budgets_file names' offers' -> names' = names /\\ offers' = offers", sprintf "proj1 (proj1 (%s))" sound);
     ("choices_denoted",
      sprintf "choices_denote names %d choices_file records /\\\n  forall other, choices_denote names %d choices_file other -> other = records"
-       many many, sprintf "proj1 (proj2 (proj1 (%s)))" sound);
-    ("choices_are_good", "good_choices kinds offers records", sprintf "proj2 (proj2 (proj1 (%s)))" sound);
+       many many, sprintf "proj2 (proj1 (%s))" sound);
     ("shares_observed", "observed_shares offers records shares", sprintf "proj1 (proj2 (%s))" sound) ]
   @ match rounded with
     | None -> []

@@ -27,9 +27,11 @@ def theorem(data: Any, certificate: Any = None, *, per: Any = None, pairs: bool 
     """Returns a file of Coq that proves the verdicts on a table, or on choices from budgets. `to` names a file to write.
 
     `data` is a result of `analyse`, `demand_bounds`, `welfare_bounds` or `random_utility`, which has its own certificate. Or it is a frame,
-    or prices and quantities in a tuple, which are analysed first. Or it is what `check` takes, with a certificate.
+    or prices and quantities in a tuple, which are analysed first. Or it is what `check` takes, with a certificate. The certificate of a
+    table may be one on goodness of fit.
 
-    `per` rounds the shares of choices to this number of units, as in `random_utility`; a result of `random_utility` has its own.
+    `per` rounds the shares of choices to this number of units, as in `random_utility`. A result of `random_utility` or `menus` has its
+    own.
     `pairs=True` proves which observations of a table contradict each other, and how many by each axiom. It needs no certificate.
     `pump=True` proves the maximum money pump index of a table. Results of `money_pump`, `menus` and `cost` are taken as they are.
 
@@ -88,10 +90,10 @@ def _of_answer(data: Any, certificate: Any, per: Any, pump: bool) -> tuple[list[
 def _of_report(answer: Any, per: Any) -> tuple[list[str], dict[str, bytes]]:
     """Returns the words and the files of the theorems on an answer that stands in a report."""
     word, name = next(it for kind, it in REPORTS.items() if isinstance(answer, kind))
-    files, per, _ = commands._files(answer, per)
     if per is not None:
-        raise BadData("theorems on the money pump, on menus and on cost have no rounded shares: leave per out")
-    return [word, name, RESULT], {name: files[name], RESULT: commands.certificate_bytes(answer)}
+        raise BadData("a result of menus has its own number of units, and the money pump and cost have no shares: leave per out")
+    files, units, _ = commands._files(answer, None)
+    return [word, name, RESULT, *commands._units(units)], {name: files[name], RESULT: commands.certificate_bytes(answer)}
 
 
 def _table_alone(files: dict[str, bytes]) -> dict[str, bytes]:

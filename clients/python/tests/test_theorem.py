@@ -24,6 +24,8 @@ BUDGETS, CHOICES = (
 MIXED = '{"items":[{"den":"1","item":"random","parts":[[[1,4],"1"],[[2,3],"2"]],"total":"4","weights":["1","0","1","0"]}],"kind":"random","version":1}\n'
 PUMP = b"observations 2 goods 2 places 0 0\npump 1/5\ncycle 1 2 1\nvalues 0 0\n"
 OF_MENUS = b"alternatives 3 menus 2 cells 3 orders 2 total 2\nmenus violated share 1/2\nweights 0 1 0 over 1\npart b a c weight 1\n"
+OF_FIFTHS = b"alternatives 3 menus 2 cells 3 orders 2 total 5\napportioned per 5\nmenus violated share 2/5\nweights 0 1 0 over 1\npart b a c weight 2\n"
+KEPT = '{"items":[{"den":"1","groups":[{"pairs":[1,2],"weight":"1"}],"item":"kept","kept":[1],"most":"1","ranks":[0]}],"kind":"fit","version":1}\n'
 # Stands for the program: it writes its words and the files that it is given.
 STANDS = '#!/bin/sh\n[ "$1" = --theorem ] || exit 2\necho "(* $* *)"\nshift\nfor it; do [ ! -f "$it" ] || cat "$it"; done\n'
 
@@ -95,6 +97,11 @@ class Given(unittest.TestCase):
         with self.assertRaisesRegex(BadData, "leave per out"):
             revealed.theorem(revealed.MenuVerdict(own, OF_MENUS), per=5, exe=self.program)
 
+    def test_choices_from_menus_in_units(self):
+        own = revealed.MenuChoices([["abc", "a", 1], ["abc", "b", 1], ["ab", "b", 2]], 5)
+        text = revealed.theorem(revealed.MenuVerdict(own, OF_FIFTHS), exe=self.program)
+        self.assertEqual(text, "(* --theorem --menus menus.csv result.txt --per 5 *)\n" + own.csv().decode() + OF_FIFTHS.decode())
+
     def test_what_is_rejected_has_no_theorem(self):
         self.program.write_text(
             "#!/bin/sh\necho rejected item 1 NotClosed place 0\nexit 1\n",
@@ -130,6 +137,18 @@ class Written(unittest.TestCase):
             "Theorem greatest_share_is : forall K, greatest_share_of_rankings K observed (1 # 2).",
             revealed.theorem(revealed.MenuVerdict(own, OF_MENUS)),
         )
+
+    def test_theorems_of_menus_in_units(self):
+        own = revealed.MenuChoices([["abc", "a", 1], ["abc", "b", 1], ["ab", "b", 2]], 5)
+        text = revealed.theorem(revealed.MenuVerdict(own, OF_FIFTHS))
+        self.assertIn("Theorem choices_rounded : rounded_choices 5 observed rounded.", text)
+        self.assertIn("Theorem greatest_share_is : forall K, greatest_share_of_rankings K rounded (2 # 5).", text)
+
+    def test_theorems_of_goodness_of_fit(self):
+        text = revealed.theorem(TABLE, KEPT)
+        self.assertIn("Theorem kept_is : kept_index observed 1.", text)
+        with self.assertRaisesRegex(BadData, "rejected item 1 Order place 1"):
+            revealed.theorem(TABLE, KEPT.replace("[1],", "[1,2],").replace("[0]", "[0,0]"))
 
     def test_theorems_of_choices(self):
         text = revealed.theorem((BUDGETS, CHOICES), MIXED)

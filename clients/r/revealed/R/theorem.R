@@ -46,7 +46,9 @@ asked_of_answer <- function(data, certificate, per, levels, pump) {
 
 # Returns the words and the files of the theorems on an answer that stands in a report.
 asked_of_report <- function(answer, per) {
-  if (!is.null(per)) bad_data("theorems on the money pump, on menus and on cost have no rounded shares: leave per out")
+  if (!is.null(per)) {
+    bad_data("a result of rp_menus has its own number of units, and the money pump and cost have no shares: leave per out")
+  }
   of <- switch(class(answer)[1],
     rp_pump = list("--pump", "table.csv", answer$table),
     rp_menus = list("--menus", "menus.csv", answer$menus),
@@ -54,7 +56,8 @@ asked_of_report <- function(answer, per) {
   )
   report <- charToRaw(paste0(answer$report, "\n", collapse = ""))
   files <- named(list(csv_lines(of[[3]]), report), c(of[[2]], "result.txt"))
-  list(words = c(of[[1]], names(files)), files = files)
+  units <- sub("^apportioned per ", "", grep("^apportioned per ", answer$report, value = TRUE))
+  list(words = c(of[[1]], names(files), if (length(units)) units_of(units)), files = files)
 }
 
 # Returns the file of a table, and refuses other data.

@@ -13,13 +13,13 @@ rp_theorem(data, certificate = NULL, file = NULL, levels = NULL, exe = NULL,
 \item{data}{a result of \code{\link{rp_test}}, \code{\link{rp_demand}}, \code{\link{rp_welfare}} or \code{\link{rp_random}}, which has
 its own certificate. Or a result of \code{\link{rp_money_pump}}, \code{\link{rp_menus}} or
 \code{\link{rp_cost}}. Or a data frame, or a list of prices and quantities, which \code{rp_test} analyses. Or, with a certificate, data
-as for \code{\link{rp_check}}.}
+as for \code{\link{rp_check}}; the certificate of a table may be one on goodness of fit.}
 \item{certificate}{a result, its JSON as a text, or the name of its file.}
 \item{file}{the name of the file to write, such as \code{"Paper.v"}. \code{NULL} writes none.}
 \item{levels}{efficiency levels, as for \code{\link{rp_test}}.}
 \item{exe}{the program \code{rp-second}. By default the variable \code{RP_SECOND} names it, or it is on the path.}
 \item{per}{the number of units that the shares of choices are rounded to, as for \code{\link{rp_random}}. A result of
-\code{rp_random} has its own.}
+\code{rp_random} or \code{rp_menus} has its own.}
 \item{pairs}{\code{TRUE} proves which observations of a table contradict each other, and how many by each axiom. It needs no
 certificate.}
 \item{pump}{\code{TRUE} proves the maximum money pump index of a table.}

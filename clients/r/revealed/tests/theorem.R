@@ -30,6 +30,11 @@ if (nzchar(old)) {
   menus <- data.frame(menu = c("abc", "abc", "ab"), choice = c("a", "b", "b"), n = c(1, 1, 2))
   ranked <- rp_theorem(rp_menus(menus))
   stopifnot("Theorem greatest_share_is : forall K, greatest_share_of_rankings K observed (1 # 2)." %in% ranked)
+  in_fifths <- rp_theorem(rp_menus(menus, per = 5))
+  stopifnot(
+    "Theorem choices_rounded : rounded_choices 5 observed rounded." %in% in_fifths,
+    "Theorem greatest_share_is : forall K, greatest_share_of_rankings K rounded (2 # 5)." %in% in_fifths
+  )
   budgets <- rbind(c(1, 2, 4), c(2, 1, 4))
   colnames(budgets) <- c("p_a", "p_b", "w")
   choices <- data.frame(budget = c(1, 1, 2, 2), q_a = c(2, 0, 1, 2), q_b = c(1, 2, 2, 0), n = c(1, 3, 2, 2))
