@@ -1,0 +1,20 @@
+//! Tests of goodness of fit: evidence that the checker accepts and forged evidence, what searches find, certificates
+//! as JSON, reports, and the program over files in memory.
+#![tactic(auto)]
+
+#[cfg(test)]
+mod forged;
+#[cfg(test)]
+mod many;
+#[cfg(test)]
+mod programs;
+#[cfg(test)]
+mod reading;
+#[cfg(test)]
+mod refused;
+#[cfg(test)]
+mod searches;
+#[cfg(test)]
+mod verdicts;
+#[cfg(test)]
+mod worked;
