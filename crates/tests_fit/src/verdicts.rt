@@ -26,11 +26,13 @@ pub(crate) fn report_on(
     input: &Input<'_>,
     items: &[FitItem],
 ) -> Result<String, Fail> {
-    if check_fit(input, items) != Verdict::Accepted {
-        return Err(Fail::new("evidence that is not accepted"));
+    match check_fit(input, items) {
+        Verdict::Accepted => {
+            let report = report_fit(alloc, input, items)?;
+            Ok(String::from_utf8_lossy(alloc, report.as_slice())?)
+        }
+        Verdict::Rejected { .. } => Err(Fail::new("evidence that is not accepted")),
     }
-    let report = report_fit(alloc, input, items)?;
-    Ok(String::from_utf8_lossy(alloc, report.as_slice())?)
 }
 
 /// The report of items on a table.
