@@ -11,4 +11,4 @@ mod pairs;
 mod violations;
 
 pub use kept::check_kept;
-pub use violations::check_violations;
+pub use violations::{check_violations, count_violations};

@@ -1,5 +1,5 @@
-//! The check of numbers of pairs of observations that violate an axiom: they are counted again.
-ghost use Rattle.std.specs.Prelude.{IfOk};
+//! Numbers of pairs of observations that violate an axiom, and their check: they are counted again.
+ghost use Rattle.std.specs.Prelude.{IfOk, Ok};
 ghost use Rattle.rp_check_fit.specs.Axioms.{IsPairOf};
 ghost use Rattle.rp_check_fit.specs.ViolationsFailure.{ViolationsFail};
 ghost use Rattle.rp_evidence.specs.Clauses.{Unless};
@@ -15,6 +15,22 @@ use rp_clauses::closure::Reachability;
 use rp_clauses::input::Input;
 use rp_evidence::{Failure, Reason, fails};
 use rp_fit::ViolationsPart;
+
+/// Counts the pairs that violate each axiom, and the observations in some pair that violates GARP.
+pub fn count_violations(input: &Input<'_>) -> ViolationsPart
+    ensures accepted { ViolationsFail (input_of_table input.now.table.now) result (Ok tt) }
+    ensures proves { AreViolationCounts (input_of_table input.now.table.now)
+        result.garp result.weak_garp result.warp result.sarp result.observations }
+{
+    let reached = Reachability::of(input);
+    ViolationsPart {
+        garp: count_pairs(input, &reached, Axiom::Garp),
+        weak_garp: count_pairs(input, &reached, Axiom::WeakGarp),
+        warp: count_pairs(input, &reached, Axiom::Warp),
+        sarp: count_pairs(input, &reached, Axiom::Sarp),
+        observations: count_in_pairs(input, &reached),
+    }
+}
 
 /// Checks the numbers of violating pairs.
 pub fn check_violations(input: &Input<'_>, part: &ViolationsPart) -> Result<(), Failure>
