@@ -187,7 +187,8 @@ fn files_are_rejected(rt: HostRuntime) -> Result<(), Fail> {
 }
 
 /// How the program is called.
-const USAGE: &str = "usage: rp-wide checkfit TABLE CERT\n";
+const USAGE: &str =
+    "usage: rp-wide fit TABLE [--json]\n       rp-wide checkfit TABLE CERT\n";
 
 /// Words that the program does not take.
 const OTHERS: [&[&str]; 8] = [
