@@ -187,8 +187,7 @@ fn files_are_rejected(rt: HostRuntime) -> Result<(), Fail> {
 }
 
 /// How the program is called.
-const USAGE: &str =
-    "usage: rp-wide fit TABLE [--json]\n       rp-wide checkfit TABLE CERT\n";
+const USAGE: &str = "usage: rp-wide fit TABLE [--json]\n       rp-wide checkfit TABLE CERT\n";
 
 /// Words that the program does not take.
 const OTHERS: [&[&str]; 8] = [
@@ -241,6 +240,58 @@ fn assert_accepted(rt: &impl Abort, alloc: Global) -> Result<(), Fail> {
 #[test]
 fn worked_certificates_are_accepted(rt: HostRuntime) -> Result<(), Fail> {
     assert_accepted(&rt, rt.alloc())
+}
+
+/// What `fit` prints of a table: JSON, or the report.
+fn fitted(alloc: Global, table: &str, json: bool) -> Result<Ended, Fail> {
+    let files = [("t.csv", table)];
+    if json {
+        run_over(
+            alloc,
+            &["rp-wide", "fit", "t.csv", "--json"],
+            false,
+            &files,
+            &[],
+        )
+    } else {
+        run_over(alloc, &["rp-wide", "fit", "t.csv"], false, &files, &[])
+    }
+}
+
+/// Asserts that `checkfit` accepts what `fit` writes of the worked tables.
+fn assert_made(rt: &impl Abort, alloc: Global) -> Result<(), Fail> {
+    for k in 0..WORKED.len() {
+        let (table, _, _, _) = WORKED[k];
+        let made = fitted(alloc, table, true)?;
+        assert_eq!(rt; made.status, Status::Done);
+        let ended = checked(alloc, table, made.out.as_str())?;
+        assert_ended(rt, &ended, Status::Done, "accepted items 9\n", "");
+    }
+    Ok(())
+}
+
+#[test]
+fn what_fit_writes_is_accepted(rt: HostRuntime) -> Result<(), Fail> {
+    assert_made(&rt, rt.alloc())
+}
+
+/// How the report of the first worked table begins.
+const BEGINNING: &str =
+    "observations 2 goods 2 places 0 0\nviolations garp 2 wgarp 2 warp 2 sarp 2 of 2\nviolating observations 2 of 2\nefficiency 4/5 attained yes\n";
+
+#[test]
+fn fit_prints_a_report(rt: HostRuntime) -> Result<(), Fail> {
+    let ended = fitted(rt.alloc(), CONTRADICTION, false)?;
+    assert_eq!(rt; ended.status, Status::Done);
+    assert!(rt; ended.out.as_str().starts_with(BEGINNING), "{}", ended.out);
+    Ok(())
+}
+
+#[test]
+fn fit_refuses_levels_of_observations(rt: HostRuntime) -> Result<(), Fail> {
+    let ended = fitted(rt.alloc(), AT_800, false)?;
+    assert_ended(&rt, &ended, Status::Refused, "", "rp: t.csv: OwnLevels\n");
+    Ok(())
 }
 
 /// A text of the first worked certificate, what stands in its place, and the verdict.
