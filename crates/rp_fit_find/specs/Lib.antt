@@ -1,1 +1,2 @@
 pub mod WholeFit
+pub mod InnerReady

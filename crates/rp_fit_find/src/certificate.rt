@@ -7,6 +7,7 @@ ghost use Rattle.rp_fit.specs.FitItems.{ProvesFit};
 ghost use Rattle.rp_fit_find.specs.WholeFit.{IsWholeFit};
 ghost use Rattle.rp_json_fit.specs.FitLimits.{FitsItem};
 
+use crate::parts::Parts;
 use rp_clauses::input::Input;
 use rp_fit::FitItem;
 use rp_num::{NoMemory, Seq};
@@ -14,13 +15,15 @@ use std::alloc::Global;
 
 /// Each index of goodness of fit of a table, with evidence that the checker takes. What is found is within the limits in
 /// which it is read back.
-pub fn find_fit(_alloc: Global, _input: &Input<'_>) -> Result<Seq<FitItem>, NoMemory>
+pub fn find_fit(alloc: Global, input: &Input<'_>) -> Result<Seq<FitItem>, NoMemory>
     ensures accepted { IfOk result (λ items.
-        IsFitVerdict (input_of_table _input.now.table.now) items Accepted) }
+        IsFitVerdict (input_of_table input.now.table.now) items Accepted) }
     ensures proves { IfOk result (λ items.
-        All (ProvesFit (input_of_table _input.now.table.now)) items) }
+        All (ProvesFit (input_of_table input.now.table.now)) items) }
     ensures fits { IfOk result (λ items. All FitsItem items) }
-    ensures kinds { IfOk result (IsWholeFit _input.now.table.now) }
+    ensures kinds { IfOk result (IsWholeFit input.now.table.now) }
 {
-    Err(NoMemory)
+    let parts = Parts::find(alloc, input)?;
+    let items = parts.into_items(alloc)?;
+    Ok(items)
 }

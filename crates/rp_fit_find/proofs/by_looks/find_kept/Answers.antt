@@ -1,0 +1,8 @@
+use Rattle.rp_fit_find.proofs.by_looks.find_kept.Goals as goal
+
+pub returns : goal.returns
+returns c = record {
+  passes = c.in_ok-part.ensures.accepted;
+  proves = c.in_ok-part.ensures.proves;
+  fits = c.kept_fits.ensures;
+}
