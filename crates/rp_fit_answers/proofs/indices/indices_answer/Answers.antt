@@ -4,8 +4,7 @@ use Rattle.rp_fit_answers.proofs.indices.indices_answer.Goals as goal
 
 pub returns : goal.returns
 returns c =
-    let items = c.in_ok-items.items in
-    (
+    let items = c.in_ok-items.items in (
       record {
         items = items;
         proves = rw c.new-input.ensures.of at c.in_ok-items.ensures.proves;
