@@ -3,6 +3,8 @@
 #![tactic(auto)]
 
 #[cfg(test)]
+mod directly;
+#[cfg(test)]
 mod forged;
 #[cfg(test)]
 mod many;
