@@ -19,12 +19,16 @@ const WITHHELD = {
 const OVER_CHOICES = ["random", "checkrandom", "patches"];
 const REFUSED = /^rp: (?:TooManyPatches|TooManyCombinations|TooManyTypes)\b/m;
 
+/** What is answered as `rp-wide` where the module is of a release before that: as where the words are no command. */
+const NO_WIDE = { status: 2, output: "", told: "this module does not have rp-wide\n" };
+
 /**
  * The answer of `rp`; where that withholds something, of the wider edition, and as `stated` what `rp` itself writes;
  * and where it refuses choices which the wider edition may take, of that, and as `refused` what `rp` itself tells. With
  * an `edition` that one alone is asked.
  */
 function asked(words, files, edition) {
+  if (edition === "rp-wide" && library.hasWide === false) return NO_WIDE;
   if (edition) return library.texts(words, files, edition === "rp-wide");
   const own = library.texts(words, files);
   if (own.status === 4 && OVER_CHOICES.includes(words[0]) && REFUSED.test(own.told)) {
@@ -38,10 +42,10 @@ function answerOne({ words, files, edition }) {
   return asked(words, files, edition);
 }
 
-function answerPanel({ words, households, more }) {
+function answerPanel({ words, households, more, edition }) {
   return households.map(({ household, bytes }) => ({
     household,
-    ...asked(words, [{ name: "table.csv", bytes }, ...more]),
+    ...asked(words, [{ name: "table.csv", bytes }, ...more], edition),
   }));
 }
 

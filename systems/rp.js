@@ -108,6 +108,11 @@ class Library {
     this.instance = null;
   }
 
+  /** Whether the module answers as `rp-wide`, which one of an early release does not. */
+  get hasWide() {
+    return WebAssembly.Module.exports(this.module).some((it) => it.name === "rp_answer_wide");
+  }
+
   /**
    * Answers the words after the program's name over files, each `{ name, bytes }` with a `Uint8Array`, of which no more
    * are given than the command names. Gives `{ status, output, told }`, the last two as bytes. With `isWide` it answers
