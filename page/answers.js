@@ -1,5 +1,7 @@
 /** The answers on one table: each verdict in words, its evidence, the picture, the report and the certificate. */
-import { button, folded, keepFile, labelled, listOf, make, printed, say, tableOf } from "./dom.js";
+import { button, cardsAt, drawAnew, folded, keepFile, labelled, listOf, make, printed, say, tableOf } from "./dom.js";
+import { goneOf } from "./fit.js";
+import { fitSection } from "./fit_cards.js";
 import { budgetPicture, fileOf } from "./pictures.js";
 import {
   about,
@@ -15,18 +17,7 @@ import { WIDE, WIDE_MEANS, isWideTest, reportBy } from "./says.js";
 import { sentence } from "./sentences.js";
 
 const WITHHELD = "withheld";
-
-/** A card of an answer: what was asked, the verdict, what it says, and the rest. */
-function card(title, verdict, looks, ...rest) {
-  return make(
-    "article",
-    { className: "card" },
-    make("h3", { textContent: title }),
-    make("p", { className: `verdict ${looks}`.trim(), textContent: verdict.head }),
-    say(verdict.says),
-    ...rest,
-  );
-}
+const card = cardsAt("h3");
 
 /** Lists of the evidence, a row for each observation; labels have a column where they are not the numbers. */
 function byObservation(table, columns) {
@@ -154,20 +145,36 @@ function testCard(name, title, item, table, levels, steps, isWide = false) {
   return card(title, verdict, "", say(`The program stopped at ${item.verdict.replace(`${WITHHELD} `, "")}.`));
 }
 
-/** The picture of two goods, with the curve of equal utility through the observation that is chosen. */
+/** What of a picture can be switched off: its name, and what it is in words. */
+const SWITCHES = [["gone", "Mark observations that would have to go"], ["shrunk", "Draw budgets shrunk to the CCEI"]];
+
+/** The budgets that the CCEI shrinks until the cycle that binds it breaks: the index, and whose they are. */
+function shrunkBy(efficiency) {
+  const [index] = efficiency.verdict.split(" ");
+  const of = [...new Set(numbersIn(efficiency.above))];
+  return index === "1" || !of.length ? null : { index, of };
+}
+
+/**
+ * The picture of two goods, with the curve of equal utility through the observation that is chosen; `mark` takes the
+ * observations that would have to go.
+ */
 function pictureOf(report, table, name, hasLines) {
   if (table.goods.length !== 2) return null;
-  const { garp, afriat } = report.items;
+  const { garp, afriat, efficiency } = report.items;
+  const marks = { gone: [], shrunk: shrunkBy(efficiency) };
+  const isOn = { gone: true, shrunk: true };
   const model = afriat.verdict === "model"
     ? { utility: numbersIn(afriat.utility), lambda: numbersIn(afriat.lambda), through: 0 }
     : null;
   const figure = make("figure");
   const draw = () => {
-    const svg = budgetPicture(table, numbersIn(garp.cycle), model, hasLines);
+    const shown = { gone: isOn.gone ? marks.gone : [], shrunk: isOn.shrunk ? marks.shrunk : null };
+    const svg = budgetPicture(table, numbersIn(garp.cycle), model, hasLines, shown);
     const held = table.levels ? " What counts of each budget, by its level, is the thin dashed line." : "";
     const caption =
       "Budget lines, what was chosen on them, and the violating cycle where there is one. Drawn with rounded " +
-      `numbers; the verdicts are not.${held}`;
+      `numbers; the verdicts are not.${held}${marksSay(shown)}`;
     const keep = button("Keep the picture as SVG", () => keepFile(`${name}.svg`, fileOf(svg), "image/svg+xml"));
     const through = model && make(
       "select",
@@ -189,18 +196,38 @@ function pictureOf(report, table, name, hasLines) {
       keep,
       ...(through ? [labelled("Curve of equal utility through observation", through)] : []),
     );
-    figure.replaceChildren(svg, make("figcaption", { textContent: caption }), row);
+    drawAnew(figure, svg, make("figcaption", { textContent: caption }), row, ...switches());
   };
+  const switches = () => SWITCHES.filter(([it]) => marks[it]?.of?.length || marks[it]?.length).map(([it, says]) => {
+    const box = make("input", {
+      type: "checkbox",
+      checked: isOn[it],
+      onchange: () => ((isOn[it] = box.checked), draw()),
+    });
+    return make("div", { className: "row" }, make("label", {}, box, ` ${says}`));
+  });
   draw();
-  return figure;
+  return { figure, mark: (gone) => ((marks.gone = gone), draw()) };
+}
+
+/** What the marks of a picture are, for its caption. */
+function marksSay({ gone, shrunk }) {
+  const crosses = gone.length
+    ? " A cross marks an observation that would have to go, so that the others satisfy GARP (Houtman-Maks)."
+    : "";
+  const lines = shrunk
+    ? ` Lines of dashes and dots are the budgets along the binding cycle, shrunk to the CCEI ${shrunk.index}.`
+    : "";
+  return crosses + lines;
 }
 
 /**
  * Everything that the answer of `analyse` says, for reading. `certificate` gives the certificate's text; with own money
  * at each observation the quasilinear test, which adds money of several, is left out. `stated` is what `rp` itself
- * writes, where the answer is the wider edition's.
+ * writes, where the answer is the wider edition's. `fit` has the client and the file of the indices of goodness of fit,
+ * where they are shown too.
  */
-export function tableAnswers(output, table, certificate, hasOwnMoney = false, stated = null) {
+export function tableAnswers(output, table, certificate, hasOwnMoney = false, stated = null, fit = null) {
   const report = parseReport(output);
   const { garp, afriat, efficiency, homothetic, quasilinear } = report.items;
   const levels = Boolean(report.levels);
@@ -244,7 +271,8 @@ export function tableAnswers(output, table, certificate, hasOwnMoney = false, st
     "Make a certificate and keep it",
     async () => keepFile("certificate.json", await certificate(), "application/json"),
   );
-  const figure = pictureOf(report, table, "budgets", hasOwnMoney);
+  const picture = pictureOf(report, table, "budgets", hasOwnMoney);
+  const figure = picture?.figure;
   return make(
     "div",
     {},
@@ -255,8 +283,17 @@ export function tableAnswers(output, table, certificate, hasOwnMoney = false, st
       make("div", { className: figure ? "cards" : "cards many" }, ...cards),
       figure,
     ),
+    ...fitBelow(fit, table, hasOwnMoney, picture?.mark),
     folded(reportBy(stated), printed(output)),
     make("div", { className: "row" }, keep),
   );
 }
 
+/** Goodness of fit below the verdicts, where it is asked; what would have to go is marked in the picture. */
+function fitBelow(fit, table, hasOwnMoney, mark) {
+  if (!fit) return [];
+  if (table.levels) {
+    return [say("The indices of goodness of fit are defined without levels: leave the column e out for them.")];
+  }
+  return [fitSection(fit, table, hasOwnMoney, ({ kept }) => mark?.(goneOf(kept)))];
+}

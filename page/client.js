@@ -10,12 +10,23 @@ const SLICE = 100;
 export class Stopped extends Error {}
 
 export class Client {
-  constructor(moduleText, workerText) {
-    this.module = bytesOfBase64(moduleText);
-    this.address = URL.createObjectURL(new Blob([workerText], { type: "text/javascript" }));
+  /** Over the bytes of the module, and the address of the worker's script. */
+  constructor(module, address) {
+    [this.module, this.address] = [module, address];
     this.worker = null;
     this.waiting = new Map();
     this.number = 0;
+  }
+
+  /** The client of the texts that the page has of them. */
+  static of(moduleText, workerText) {
+    const script = new Blob([workerText], { type: "text/javascript" });
+    return new Client(bytesOfBase64(moduleText), URL.createObjectURL(script));
+  }
+
+  /** Another client with a worker of its own: what that is asked keeps no question of this one waiting. */
+  another() {
+    return new Client(this.module, this.address);
   }
 
   #begin() {
@@ -63,14 +74,14 @@ export class Client {
 
   /**
    * Answers each household, of which all have the further files; `onPart` takes what came since it was called last. The
-   * worker gets some at a time, so that other questions are answered between them.
+   * worker gets some at a time, so that other questions are answered between them. An `edition` is asked alone.
    */
-  async panel(words, households, onPart, more = []) {
+  async panel(words, households, onPart, more = [], edition = null) {
     let [at, size] = [0, 1];
     while (at < households.length) {
       const began = performance.now();
       const some = households.slice(at, at + size).map(({ household, bytes }) => ({ household, bytes }));
-      onPart(await this.#ask("panel", { words, households: some, more }));
+      onPart(await this.#ask("panel", { words, households: some, more, edition }));
       at += some.length;
       const took = Math.max(performance.now() - began, 1);
       size = Math.max(1, Math.min(2 * size, Math.round((size * SLICE) / took)));

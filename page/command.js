@@ -1,6 +1,6 @@
 /** The form in which any command is typed, with its files. */
 import { button, labelled, make, say } from "./dom.js";
-import { commands } from "./facts.js";
+import { commands, facts } from "./facts.js";
 import { bytesOf } from "./sheets.js";
 
 /** Splits a line into words as a shell does with quotes. */
@@ -64,7 +64,7 @@ export function commandForm(client, examples) {
     say(
       `Type a command without the program's name: ${commands().map((it) => it.usage).join("; ")}. With rp-wide in ` +
         "front, rp-wide runs the command: it finds most results that rp leaves undetermined, and takes choices with " +
-        "more patches or types.",
+        `more patches or types. It also has ${facts().wide_commands.map((it) => it.usage).join("; ")}.`,
     ),
     make("div", { className: "row" }, labelled("Files:", chooser)),
     list,

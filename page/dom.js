@@ -95,3 +95,13 @@ export const say = (text) => make("p", { textContent: text });
 
 /** Sentences that follow each other. */
 export const listOf = (texts) => make("ol", {}, ...texts.map((it) => make("li", { textContent: it })));
+
+/** Cards with their titles at this level: what was asked, the verdict, what it says, and the rest. */
+export const cardsAt = (level) => (title, verdict, looks, ...rest) => make(
+  "article",
+  { className: "card" },
+  make(level, { textContent: title }),
+  make("p", { className: `verdict ${looks}`.trim(), textContent: verdict.head }),
+  say(verdict.says),
+  ...rest,
+);

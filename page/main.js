@@ -86,7 +86,9 @@ const KINDS = [
   },
 ];
 
-const client = new Client(textOf("module"), textOf("worker"));
+const client = Client.of(textOf("module"), textOf("worker"));
+// Goodness of fit may take long, and keeps no other question waiting.
+const fitting = client.another();
 const at = (id) => document.getElementById(id);
 const [leastUnits, mostUnits] = range("random", "--per");
 const per = make("input", { type: "number", min: leastUnits, max: mostUnits, size: 12, onchange: () => asked() });
@@ -142,7 +144,7 @@ function showsOf(own) {
 /** Begins a run: what was answered is gone, and work on it is stopped. */
 function cleared() {
   run = runs.begin();
-  if (client.isBusy) client.stop();
+  for (const it of [client, fitting]) if (it.isBusy) it.stop();
   at("work").hidden = at("answers").hidden = at("more").hidden = true;
   for (const it of ["status", "results", "questions"]) at(it).replaceChildren();
 }
@@ -187,7 +189,8 @@ async function answerTable(slot, own) {
   shows.tell(`${file.name}: done.`);
   window.firstAnswer ??= performance.now();
   const says = lines ? [make("p", { textContent: lines.says })] : [];
-  shows.results(...says, tableAnswers(given.output, table, certificate, hasOwnMoney, given.stated));
+  const fit = { client: fitting, file };
+  shows.results(...says, tableAnswers(given.output, table, certificate, hasOwnMoney, given.stated, fit));
   shows.questions(...tableQuestions(client, file, table, shows, hasOwnMoney));
 }
 
@@ -215,7 +218,8 @@ async function answerPanel(slot, own) {
   const hasLevels = mapping.names(sheet.header).includes("e");
   const { hasOwnMoney } = mapping;
   const advice = sheet.advice("");
-  const panel = new Panel(client, households, { files, shows, place: placeOf, called, advice, hasOwnMoney, hasLevels });
+  const given = { files, shows, place: placeOf, called, advice, hasOwnMoney, hasLevels };
+  const panel = new Panel(client, fitting, households, given);
   slot.show(null, true);
   shows.tell(`${households.length} ${called.units}.`);
   shows.results(panel.place);
@@ -306,7 +310,7 @@ KINDS.forEach((it, number) => {
   );
   at("kinds").append(make("label", {}, radio, ` ${it.says}`));
 });
-at("stop").addEventListener("click", () => client.stop());
+at("stop").addEventListener("click", () => [client, fitting].forEach((it) => it.stop()));
 at("command").append(...commandForm(client, EXAMPLES));
 const choosesFile = (event) => Boolean(event.target.closest?.("input[type=file]"));
 document.addEventListener("dragover", (event) => choosesFile(event) || event.preventDefault());
@@ -316,10 +320,11 @@ document.addEventListener("drop", (event) => {
   const files = [...(event.dataTransfer?.files ?? [])];
   if (!isTaken && files.length) takeDropped(files);
 });
-// On paper nothing can be unfolded, so what is folded in the answers is open while the page is printed.
+// On paper nothing can be unfolded, so what is folded in the answers is open while the page is printed. A report whose
+// evidence the certificate has too is printed only where it was opened.
 let unfolded = [];
 addEventListener("beforeprint", () => {
-  unfolded = [...document.querySelectorAll("#answers details:not([open])")];
+  unfolded = [...document.querySelectorAll("#answers details:not([open], .report)")];
   unfolded.forEach((it) => (it.open = true));
 });
 addEventListener("afterprint", () => unfolded.forEach((it) => (it.open = false)));

@@ -4,15 +4,20 @@ import { HOW_POWER_DRAWS, drawBehaviours, shareInWords, sharesTable } from "./be
 import { button, freshId, keepFile, labelled, make, numberField, say } from "./dom.js";
 import { MOST_SEED } from "./draws.js";
 import { limit, range } from "./facts.js";
+import { FIT_COLUMNS, LACKS_FIT, fitFields, lacksFit } from "./fit.js";
 import { indexPicture, fileOf } from "./pictures.js";
 import { Purchases, asNumber } from "./reports.js";
-import { COLUMNS, askedRows, rowAt, tableRecords } from "./rows.js";
+import { COLUMNS, askedRows, rowAt, tableRecords, withColumns } from "./rows.js";
 import { parseRecords, writeRecords } from "./sheets.js";
 
 // How many rows stand on the page at once.
 const MOST_ROWS = 500;
 // What the page does not ask of each unit unasked.
 const NOT_ASKED = ["pump", "pump_floor", "power"];
+const FIT_MEANS =
+  "Columns: numbers of pairs that violate each axiom; kept and kept_most, the bounds of the Houtman-Maks index (HM); " +
+  "levels and squares, the bounds of Varian's index (AVI) by the mean and by the mean of squares; steps, the bounds " +
+  "of the minimum cost index (MCI). Lower bounds are rounded down, and upper bounds up.";
 
 const seconds = (from) => ((performance.now() - from) / 1000).toFixed(1);
 
@@ -24,10 +29,14 @@ export const purchasesOf = (bytes) =>
  * run that the panel is of: `working`, `progress`, `tell`; `place` gives the place in the file of a fault.
  */
 export class Panel {
-  constructor(client, households, { files, shows, place, called, advice, hasOwnMoney = false, hasLevels = false }) {
+  constructor(client, fitting, households, given) {
+    const { files, shows, place, called, advice, hasOwnMoney = false, hasLevels = false } = given;
     // What a unit is called, and what several are: by the name of the user's column.
     [this.name, this.units] = [called.name, called.units];
     [this.client, this.households, this.shows, this.where] = [client, households, shows, place];
+    // The client of goodness of fit, which keeps no other question waiting; what it has of each unit, by its id; and
+    // the further columns that were asked.
+    [this.fitting, this.fits, this.asked] = [fitting, new Map(), []];
     // What to do about a file whose changes are not all ticked, or nothing.
     [this.files, this.hasLevels, this.advice] = [files, hasLevels, advice];
     [this.rows, this.random, this.order, this.filter] = [[], [], { column: null, falls: false }, ""];
@@ -42,7 +51,8 @@ export class Panel {
     this.body = make("tbody");
     this.note = make("p", { className: "note" });
     this.opened = make("section", { id: "panel-household", attrs: { "aria-live": "polite" } });
-    const draws = make("div", {}, this.shares, this.#draws(), ...(hasLevels ? [] : this.#powers()));
+    const more = hasLevels ? [] : [...this.#powers(), ...this.#fitAsk()];
+    const draws = make("div", {}, this.shares, this.#draws(), ...more);
     const beside = make("div", { className: "beside" }, this.figure, draws);
     this.place = make("div", {}, this.summary, beside, this.#tools(), this.#table(), this.note, this.opened);
   }
@@ -76,16 +86,57 @@ export class Panel {
   async #askPower(power) {
     const rows = [];
     for await (const some of this.#answers(performance.now(), power)) rows.push(...some);
-    [this.rows, this.columns] = [rows, this.#columnsWith(["power"])];
+    this.rows = rows.map((it) => this.#fitted(it));
+    this.#addColumns(["power"]);
+    this.shows.tell(`The power of each unit, by ${power.draws} draws from the seed ${power.seed}: done.`);
+  }
+
+  /** Goodness of fit of each unit that was answered, for the columns of all of them. */
+  async #askFit() {
+    const answered = new Set(this.rows.filter((it) => !it.fault).map((it) => it.household));
+    const [given, began] = [this.households.filter((it) => answered.has(it.household)), performance.now()];
+    let [done, failed, isLacking] = [0, 0, false];
+    const taken = (parts) => {
+      isLacking ||= parts.some(lacksFit);
+      parts.forEach((it) => this.fits.set(it.household, fitFields(it, this.hasOwnMoney)));
+      done += parts.length;
+      failed += parts.filter((it) => it.status !== 0).length;
+      this.shows.progress(done, given.length, began, this.units);
+    };
+    try {
+      await this.fitting.panel(["fit", "table.csv"], given, taken, [], "rp-wide");
+    } finally {
+      if (done && !isLacking) this.#addColumns(this.#fitColumns());
+    }
+    const errors = failed ? `, ${failed} with errors` : "";
+    this.shows.tell(isLacking ? LACKS_FIT : `Goodness of fit of ${done - failed} ${this.units}${errors}: done.`);
+  }
+
+  /** Those of its columns that are told: where each observation has money of its own, none that adds it. */
+  #fitColumns() {
+    return FIT_COLUMNS.filter((it) => !(this.hasOwnMoney && it.startsWith("steps")));
+  }
+
+  /** A row with its goodness of fit, as far as that was asked. */
+  #fitted(row) {
+    const none = Object.fromEntries(FIT_COLUMNS.map((it) => [it, ""]));
+    return { ...row, ...(this.fits.get(row.household) ?? none) };
+  }
+
+  /** Shows further columns. */
+  #addColumns(names) {
+    this.asked = [...new Set([...this.asked, ...names])];
+    this.rows = this.rows.map((it) => this.#fitted(it));
+    this.columns = this.#columnsWith(this.asked);
     this.head.replaceChildren(...this.#heads());
     this.show(true);
-    this.shows.tell(`The power of each unit, by ${power.draws} draws from the seed ${power.seed}: done.`);
   }
 
   /** The columns of the table, and those of them that are not asked unasked. */
   #columnsWith(asked) {
     const isAsked = (it) => !NOT_ASKED.includes(it) || asked.includes(it);
-    return COLUMNS.filter((it) => isAsked(it) && !(this.hasOwnMoney && it === "quasilinear"));
+    const own = COLUMNS.filter((it) => isAsked(it) && !(this.hasOwnMoney && it === "quasilinear"));
+    return withColumns(own, asked.filter((it) => FIT_COLUMNS.includes(it)));
   }
 
   /** Where what is spent is in money of its own at each observation, nothing is told that adds it. */
@@ -149,6 +200,20 @@ export class Panel {
     return [row, make("p", { className: "note", textContent: HOW_POWER_DRAWS })];
   }
 
+  /** What computes goodness of fit of each unit. */
+  #fitAsk() {
+    const ask = button("Compute goodness of fit of each unit", () => this.shows.working(async () => {
+      ask.disabled = true;
+      try {
+        await this.#askFit();
+      } finally {
+        ask.disabled = false;
+      }
+    }));
+    const row = make("div", { className: "row", id: "panel-fit" }, ask);
+    return [row, make("p", { className: "note", textContent: FIT_MEANS })];
+  }
+
   #tools() {
     const filter = make(
       "input",
@@ -156,7 +221,7 @@ export class Panel {
     );
     const csv = () => keepFile(
       "verdicts.csv",
-      writeRecords(tableRecords(this.rows, this.name)),
+      writeRecords(tableRecords(this.rows, this.name, this.asked.filter((it) => FIT_COLUMNS.includes(it)))),
       "text/csv",
     );
     return make(
@@ -239,7 +304,8 @@ export class Panel {
     const given = await this.client.answer(["analyse", file.name], [file]);
     if (own !== this.opening) return;
     const certificate = async () => (await this.client.answer(["certify", file.name], [file])).output;
-    const answers = tableAnswers(given.output, purchasesOf(file.bytes), certificate, this.hasOwnMoney, given.stated);
+    const [table, fit] = [purchasesOf(file.bytes), { client: this.fitting, file }];
+    const answers = tableAnswers(given.output, table, certificate, this.hasOwnMoney, given.stated, fit);
     this.opened.replaceChildren(head, answers);
     this.opened.scrollIntoView({ block: "nearest" });
   }

@@ -1,4 +1,5 @@
 /** Pictures as SVG, to keep as files. They are drawn with floating point from the exact answers, and decide nothing. */
+import { asNumber } from "./reports.js";
 
 const SVG = "http://www.w3.org/2000/svg";
 // The looks of a picture that stands alone as a file; on the page the style sheet decides.
@@ -6,7 +7,9 @@ const ALONE = `text{font:13px sans-serif;fill:#1b1b1f}.axis{stroke:#1b1b1f;fill:
 .held{stroke:#55555f;stroke-dasharray:2 3;fill:none}
 .cycle{stroke:#96261d;stroke-width:3;fill:none}.arrow{fill:#96261d}.chosen{fill:#3d3a8c;stroke:#fff}
 .curve{stroke:#1c5d33;stroke-width:2.5;stroke-dasharray:7 4;fill:none}.people{stroke:#3d3a8c;stroke-width:2.5;fill:none}
-.random{stroke:#96261d;stroke-width:2.5;stroke-dasharray:3 4;fill:none}.bar{stroke:#3d3a8c;stroke-width:8;fill:none}`;
+.random{stroke:#96261d;stroke-width:2.5;stroke-dasharray:3 4;fill:none}.bar{stroke:#3d3a8c;stroke-width:8;fill:none}
+.shrunk{stroke:#3d3a8c;stroke-width:2;stroke-dasharray:10 3 2 3;fill:none}
+.gone{fill:#fff;stroke:#96261d;stroke-width:1.5}.cross{stroke:#96261d;stroke-width:2.5;fill:none}`;
 
 function element(name, attributes, ...children) {
   const it = document.createElementNS(SVG, name);
@@ -137,11 +140,50 @@ export function equalUtility(table, model, level, endX, steps = 300) {
   });
 }
 
+/** A choice that would have to go: a ring with a cross over it. */
+const crossed = (x, y) => [
+  element("circle", { class: "gone", cx: x, cy: y, r: 6 }),
+  element("path", { class: "cross", d: `M${x - 7} ${y - 7}l14 14M${x + 7} ${y - 7}l-14 14` }),
+];
+
+/** What stands before the words of an entry of a key. */
+function sampleOf(name, x, y) {
+  if (name === "chosen") return [element("circle", { class: name, cx: x + 17, cy: y, r: 4 })];
+  return name === "cross" ? crossed(x + 17, y) : [element("path", { class: name, d: `M${x} ${y}h34` })];
+}
+
+/** Where the entries of a key stand: in as many lines as so many pixels need; and how high they are together. */
+export function keyPlaces(entries, wide) {
+  let [x, line] = [8, 14];
+  const placed = entries.map(([name, says]) => {
+    // Letters of 13 pixels are less than 8 wide, but for a few.
+    const width = 58 + 7.5 * says.length;
+    if (x > 8 && x + width > wide) [x, line] = [8, line + 22];
+    const own = { name, says, x, line };
+    x += width;
+    return own;
+  });
+  return { placed, height: entries.length ? line + 14 : 0 };
+}
+
+/** What the signs of a picture mean, those that it has. */
+function keyEntries(cycle, model, gone, shrunk) {
+  const entries = [
+    ["cycle", "violating cycle", cycle.length],
+    ["cross", "would have to go", gone.length],
+    ["shrunk", `budget shrunk to the CCEI${shrunk?.index.length < 12 ? ` ${shrunk.index}` : ""}`, shrunk],
+    ["curve", "equal utility", model],
+  ];
+  const own = entries.filter(([, , isThere]) => isThere);
+  return own.length ? [["chosen", "chosen bundle"], ...own] : [];
+}
+
 /**
  * Budget lines of a table of two goods with the choices, a violating cycle, and a curve of equal utility where there is
- * one.
+ * one. `gone` are observations that would have to go, and `shrunk` the index by which the budgets of some are drawn
+ * shrunk.
  */
-export function budgetPicture(table, cycle, model, hasLines = false) {
+export function budgetPicture(table, cycle, model, hasLines = false, { gone = [], shrunk = null } = {}) {
   const scale = 10 ** table.quantityPlaces;
   // Where prices are intercepts exchanged, the offered line is drawn; else that of what was spent.
   const ends = table.prices.map((p, s) =>
@@ -156,15 +198,23 @@ export function budgetPicture(table, cycle, model, hasLines = false) {
   const describes = model
     ? ` The dashed curve joins bundles as good as that of observation ${model.through + 1} by Afriat's numbers.`
     : "";
+  const crosses = gone.length ? ` A cross marks what would have to go: ${gone.join(", ")}.` : "";
+  const lines = shrunk
+    ? ` Lines of dashes and dots are the budgets of ${shrunk.of.join(", ")}, shrunk to the CCEI ${shrunk.index}.`
+    : "";
   const wide = widthHere();
-  const high = wide < 480 ? Math.max(300, wide) : 480;
+  const key = keyPlaces(keyEntries(cycle, model, gone, shrunk), wide);
+  const high = (wide < 480 ? Math.max(300, wide) : 480) + key.height;
   const svg = picture(
     wide,
     high,
     "Budget lines and choices",
-    `${table.count} observations of ${table.goods.join(" and ")}. ${what}${describes}`,
+    `${table.count} observations of ${table.goods.join(" and ")}. ${what}${describes}${crosses}${lines}`,
   );
-  const size = { left: 64, top: 16, width: wide - 84, height: high - 72 };
+  for (const { name, says, x: left, line } of key.placed) {
+    svg.append(...sampleOf(name, left, line), element("text", { x: left + 42, y: line + 4 }, says));
+  }
+  const size = { left: 64, top: 16 + key.height, width: wide - 84, height: high - 72 - key.height };
   const frame = { ...size, nameX: table.goods[0], nameY: table.goods[1] };
   const { x, y, endX, endY } = axes(
     svg,
@@ -187,6 +237,11 @@ export function budgetPicture(table, cycle, model, hasLines = false) {
       );
     }
   });
+  for (const s of shrunk?.of ?? []) {
+    const part = asNumber(shrunk.index) * Number(table.cost(s - 1, s - 1)) / scale;
+    const [a, b] = table.prices[s - 1].map((price) => part / Number(price));
+    svg.append(element("path", { class: "shrunk", d: pathOf([[x(a), y(0)], [x(0), y(b)]]) }));
+  }
   if (model) {
     const curve = equalUtility(table, model, utilityOf(table, model, model.through), endX);
     const shown = curve.filter(([, second]) => second >= 0 && second <= endY);
@@ -196,9 +251,12 @@ export function budgetPicture(table, cycle, model, hasLines = false) {
     const [from, there] = [chosen[cycle[at] - 1], chosen[to - 1]];
     arrow(svg, [x(from[0]), y(from[1])], [x(there[0]), y(there[1])], 26);
   });
+  const goes = new Set(gone.map((it) => it - 1));
   chosen.forEach(([a, b], s) => {
-    svg.append(element("circle", { class: "chosen", cx: x(a), cy: y(b), r: inCycle.has(s) ? 6 : 4 }));
-    if (table.count <= 12 || inCycle.has(s)) svg.append(element("text", { x: x(a) + 9, y: y(b) - 8 }, String(s + 1)));
+    const own = { class: "chosen", cx: x(a), cy: y(b), r: inCycle.has(s) ? 6 : 4 };
+    svg.append(...(goes.has(s) ? crossed(x(a), y(b)) : [element("circle", own)]));
+    const isNamed = table.count <= 12 || inCycle.has(s) || (goes.has(s) && goes.size <= 20);
+    if (isNamed) svg.append(element("text", { x: x(a) + 9, y: y(b) - 8 }, String(s + 1)));
   });
   return svg;
 }

@@ -1,14 +1,15 @@
 /** Further questions on a table. Each says what the answer means, and shows the program's own text. */
 import { tableAnswers } from "./answers.js";
 import { HOW_POWER_DRAWS, drawBehaviours, shareInWords, sharesTable } from "./benchmark.js";
+import { checkInWords, kindOf } from "./claims.js";
 import { button, folded, keepFile, labelled, listOf, make, printed, say, tableOf } from "./dom.js";
 import { MOST_SEED } from "./draws.js";
 import { limit, range } from "./facts.js";
+import { LACKS_CHECK, lacksFit } from "./fit.js";
 import { fileOf, intervalPicture } from "./pictures.js";
 import {
   Purchases,
   asNumber,
-  checkInWords,
   cycleSentences,
   decimal,
   numbersIn,
@@ -276,6 +277,10 @@ function levelQuestion(client, file, hasOwnMoney) {
   });
 }
 
+/** The command that checks a certificate, and its edition: goodness of fit of a table has one of its own. */
+export const checkedBy = (command, text) =>
+  command === "check" && kindOf(text) === "fit" ? ["checkfit", "rp-wide"] : [command, null];
+
 /** Of the two ways to give a certificate the one that was used last counts: the other is emptied. */
 export function checkQuestion(client, says, files, words, hasOwnMoney = false) {
   const chooser = make("input", { type: "file", accept: ".json,application/json" });
@@ -290,11 +295,16 @@ export function checkQuestion(client, says, files, words, hasOwnMoney = false) {
   ], async (place) => {
     const bytes = chooser.files[0] ? new Uint8Array(await chooser.files[0].arrayBuffer()) : bytesOf(pasted.value);
     const name = nameBeside("certificate", ...files.map((it) => it.name));
-    const [command, ...rest] = words;
-    const named = [...files.map((it) => it.name), name, ...rest];
-    const answer = await client.answer([command, ...named], [...files, { name, bytes }]);
+    const text = new TextDecoder().decode(bytes);
+    const [command, edition] = checkedBy(words[0], text);
+    const named = [...files.map((it) => it.name), name, ...words.slice(1)];
+    const answer = await client.answer([command, ...named], [...files, { name, bytes }], edition);
+    if (command === "checkfit" && lacksFit(answer)) {
+      place.replaceChildren(say(LACKS_CHECK));
+      return;
+    }
     const isAnswer = answer.status === 0 || answer.status === 1;
-    const told = isAnswer ? checkInWords(answer.output, new TextDecoder().decode(bytes), hasOwnMoney) : [];
+    const told = isAnswer ? checkInWords(answer.output, text, hasOwnMoney) : [];
     const [first] = told;
     showAnswer(place, answer, told.length > 1 ? [listOf(told)] : told.length ? [say(first)] : []);
   });

@@ -77,11 +77,15 @@ export function rowAt(row, numbers, place) {
   return { ...row, record: text(record), column: text(at.column), told };
 }
 
+/** Columns with further ones before those of an error. */
+export const withColumns = (columns, more) => columns.flatMap((it) => (it === "fault" ? [...more, it] : [it]));
+
 /**
- * The records of a table for a file, under the name that the user's column of ids has: a spreadsheet takes no id of it
- * for a formula.
+ * The records of a table for a file, with further columns where they were asked, under the name that the user's column
+ * of ids has: a spreadsheet takes no id of it for a formula.
  */
-export function tableRecords(rows, name = COLUMNS[0]) {
+export function tableRecords(rows, name = COLUMNS[0], more = []) {
+  const columns = withColumns(COLUMNS, more);
   const field = (row, it) => (it === "household" ? forSpreadsheet(row[it]) : row[it]);
-  return [[name, ...COLUMNS.slice(1)], ...rows.map((row) => COLUMNS.map((it) => field(row, it)))];
+  return [[name, ...columns.slice(1)], ...rows.map((row) => columns.map((it) => field(row, it)))];
 }

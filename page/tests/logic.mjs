@@ -7,18 +7,44 @@ import { readFileSync } from "node:fs";
 import { test } from "node:test";
 import { boundOf } from "./answers.js";
 import { atThresholds, drawBehaviours, shareInWords } from "./benchmark.js";
+import { checkInWords } from "./claims.js";
+import { Stopped } from "./client.js";
 import { wordsOf } from "./command.js";
 import { drawAnew } from "./dom.js";
 import { amountsOf, behaviour, drawnFile, words } from "./draws.js";
 import { commands, facts, limit, range, sentenceOf, unitsBy } from "./facts.js";
+import {
+  FIT_COLUMNS,
+  LACKS_FIT,
+  boundsSay,
+  fitFields,
+  fitPumpSays,
+  goneOf,
+  goneSay,
+  homotheticSays,
+  indexRecords,
+  indexRows,
+  keptSays,
+  lacksFit,
+  levelRows,
+  levelsSay,
+  meanLoss,
+  parseFit,
+  quasilinearSays,
+  removedSays,
+  rounded,
+  shareOfPairs,
+  stepsSay,
+  violationsSay,
+} from "./fit.js";
+import { fitSection } from "./fit_cards.js";
 import { boundRows } from "./panel_questions.js";
-import { equalUtility, utilityOf } from "./pictures.js";
-import { nameBeside, withLevel } from "./questions.js";
+import { equalUtility, keyPlaces, utilityOf } from "./pictures.js";
+import { checkedBy, nameBeside, withLevel } from "./questions.js";
 import {
   Purchases,
   about,
   asNumber,
-  checkInWords,
   countsMean,
   cycleSentences,
   decimal,
@@ -36,6 +62,7 @@ import {
   walkInWords,
 } from "./reports.js";
 import { COLUMNS, panelWords, rowAt, rowsOf, tableRecords } from "./rows.js";
+import { load } from "./rp.js";
 import { Runs, workSays } from "./runs.js";
 import {
   WIDE,
@@ -862,4 +889,375 @@ test("the types and the patches of choices from budgets", () => {
 
 test("a line is split into words as by a shell", () => {
   assert.deepEqual(wordsOf(`check "my table.csv" 'c.json' --per 3`), ["check", "my table.csv", "c.json", "--per", "3"]);
+});
+
+// What `rp-wide fit` prints of the two choices that contradict each other (costs 5, 4; 4, 5), of the cycle of three
+// (costs 2, 1, 3; 3, 2, 1; 1, 3, 2), and of two choices that do not.
+const FIT_OF_TWO =
+  "observations 2 goods 2 places 0 0\nviolations garp 2 wgarp 2 warp 2 sarp 2 of 2\nviolating observations 2 of 2\n" +
+  "efficiency 4/5 attained yes\nbelow 1 1\nabove 1 2 1\nat ranks 2 2\n" +
+  "kept 1 of 2\nobservations 1\nranks 0\ngroups over 1\npairs 1 2 weight 1\n" +
+  "levels mean 219902325555/2199023255552 to 54975581389/549755813888 exact\nat 4/5 1\nranks 0 1\ncycles over 1\n" +
+  "cycle 1 2 1 weight 219902325555\n" +
+  "levels squares 43980465111/2199023255552 to 5497558139/274877906944 exact\nat 4/5 1\nranks 0 1\ncycles over 1\n" +
+  "cycle 1 2 1 weight 43980465111\n" +
+  "steps 1/10 to 1/10 exact\nremoved 1 to 2\nranks 0 1\ncycles over 1\ncycle 1 2 1 weight 1\n" +
+  "pump 1/5\ncycle 1 2 1\nvalues 0 0\nquasilinear level 4/5\ncycle 1 2 1\nvalues 0 0\n" +
+  "homothetic level 219902325555/274877906944 to 879609302221/1099511627776\ncycle 1 2 1\n" +
+  "values 1152921504606846976 1152921504606846976\n";
+const FIT_OF_THREE =
+  "observations 3 goods 3 places 0 0\nviolations garp 3 wgarp 0 warp 0 sarp 3 of 6\nviolating observations 3 of 3\n" +
+  "efficiency 1/2 attained yes\nbelow 1 1 1\nabove 1 2 3 1\nat ranks 3 3 3\n" +
+  "kept 2 of 3\nobservations 1 2\nranks 1 0\ngroups over 1\ncycle 1 2 3 1 weight 1\n" +
+  "levels mean 1/6 to 183251937963/1099511627776 exact\nat 1 1 1/2\nranks 2 1 0\ncycles over 1\n" +
+  "cycle 1 2 3 1 weight 549755813888\n" +
+  "levels squares 1/12 to 274877906945/3298534883328 exact\nat 1 1 1/2\nranks 2 1 0\ncycles over 1\n" +
+  "cycle 1 2 3 1 weight 274877906944\n" +
+  "steps 1/6 to 1/6 exact\nremoved 3 to 1\nranks 2 1 0\ncycles over 1\ncycle 1 2 3 1 weight 1\n" +
+  "pump 1/2\ncycle 1 2 3 1\nvalues 0 0 0\nquasilinear level 1/2\ncycle 1 2 3 1\nvalues 0 0 0\n" +
+  "homothetic level 1/2 to 1/2\ncycle 1 2 3 1\n" +
+  "values 1152921504606846976 1152921504606846976 1152921504606846976\n";
+const FIT_OF_NONE =
+  "observations 2 goods 2 places 2 0\nviolations garp 0 wgarp 0 warp 0 sarp 0 of 2\nviolating observations 0 of 2\n" +
+  "efficiency 1 attained yes\nbelow 1 1\nat ranks 1 1\n" +
+  "kept 2 of 2\nobservations 1 2\nranks 0 0\ngroups over 1\npairs 1 weight 1\npairs 2 weight 1\n" +
+  "levels mean 0 to 0 exact\nat 1 1\nranks 0 1\ncycles over 1\nlevels squares 0 to 0 exact\nat 1 1\nranks 0 1\n" +
+  "cycles over 1\nsteps 0 to 0 exact\nranks 0 1\ncycles over 1\npump 0\ncycle 1 1\nvalues 0 0\n" +
+  "quasilinear level 1\ncycle 1 1\nvalues 0 0\nhomothetic level 1 to 1\ncycle 1 1\n" +
+  "values 1152921504606846976 1152921504606846976\n";
+const TWO = new Purchases(parseRecords(CONTRADICTION, ","));
+
+test("goodness of fit of two choices that contradict each other, by hand", () => {
+  const items = parseFit(FIT_OF_TWO);
+  // Each strictly prefers itself to the other: both ordered pairs violate each axiom.
+  const { garp, wgarp, warp, sarp, pairs, observations, of } = items.violations;
+  assert.deepEqual([garp, wgarp, warp, sarp, pairs, observations, of], [2, 2, 2, 2, 2, 2, 2]);
+  assert.deepEqual(shareOfPairs(garp, pairs), ["2 of 2", "1"]);
+  assert.equal(violationsSay(items.violations).head, "2 of 2 pairs violate GARP");
+  assert.match(violationsSay(items.violations).says, / 2 of the 2 observations are in pairs that violate GARP\.$/);
+  // One can stay, and the other has to go.
+  assert.deepEqual([items.kept.least, items.kept.most, items.kept.of], [1, 1, 2]);
+  assert.deepEqual([items.kept.observations, goneOf(items.kept)], [[1], [2]]);
+  assert.deepEqual(items.kept.groups, [{ kind: "pairs", members: [1, 2], weight: "1" }]);
+  assert.equal(keptSays(items.kept).head, "1 of 2 can stay (0.5)");
+  assert.match(keptSays(items.kept).says, /could have made 1 of the 2 choices\. No .* could have made more of them\.$/);
+  assert.match(goneSay(items.kept, TWO), /^Without observation 2, .* 1 observation of 2 would have to go\./);
+  // At the level 4/5 of one observation: (1 - 4/5)/2 = 1/10, and (1 - 4/5)^2/2 = 1/50.
+  assert.deepEqual([meanLoss(items.mean.levels), meanLoss(items.squares.levels, 2)], ["1/10", "1/50"]);
+  assert.deepEqual(levelRows(items, TWO), [["1", "4/5 (0.8)", "4/5 (0.8)"]]);
+  assert.deepEqual(["mean", "squares"].map((it) => levelsSay(items[it], it).head), ["about 0.1", "about 0.02"]);
+  const [mean, squares] = ["mean", "squares"].map((it) => levelsSay(items[it], it).says);
+  assert.match(mean, /these levels are 1\/10 \(0\.1\) below 1\. Levels .* at least 0\.09999/);
+  assert.match(squares, /have squares with the mean 1\/50 \(0\.02\)\./);
+  // One strict preference costs 5 - 4 = 1 of 10 that was spent.
+  assert.equal(stepsSay(items.steps).head, "1/10 (0.1)");
+  assert.deepEqual(removedSays(items.steps.removed, TWO), [
+    "Observation 1 over observation 2: 5 was spent, and the other bundle would have cost 4. The difference is 1.",
+  ]);
+  // Along the cycle 2 of 10 is lost, and the next bundles cost 8 of 10.
+  assert.equal(fitPumpSays(items.pump).head, "1/5 (0.2)");
+  assert.equal(quasilinearSays(items.quasilinear).head, "4/5 (0.8)");
+  assert.deepEqual([items.pump.cycle, items.quasilinear.cycle, items.homothetic.cycle], Array(3).fill([1, 2, 1]));
+  // The product of the ratios is 16/25, whose root is 4/5: between the bounds.
+  const [low, high] = [items.homothetic.low, items.homothetic.high].map((it) => it.split("/").map(BigInt));
+  assert.ok(25n * low[0] ** 2n <= 16n * low[1] ** 2n && 16n * high[1] ** 2n <= 25n * high[0] ** 2n);
+  assert.equal(homotheticSays(items.homothetic).head, "about 0.8");
+  assert.equal(items.efficiency.level, "4/5");
+});
+
+test("goodness of fit of a cycle of three, and of choices that violate nothing, by hand", () => {
+  const three = parseFit(FIT_OF_THREE);
+  // Each reaches each: the pairs 1 before 3, 2 before 1 and 3 before 2 have a strict step back; no two contradict.
+  const counts = ({ garp, wgarp, warp, sarp, pairs, observations }) => [garp, wgarp, warp, sarp, pairs, observations];
+  assert.deepEqual(counts(three.violations), [3, 0, 0, 3, 6, 3]);
+  assert.deepEqual(shareOfPairs(three.violations.garp, 6), ["3 of 6", "1/2 (0.5)"]);
+  assert.deepEqual([three.kept.least, three.kept.most, goneOf(three.kept)], [2, 2, [3]]);
+  assert.deepEqual(three.kept.groups, [{ kind: "cycle", members: [1, 2, 3, 1], weight: "1" }]);
+  // One observation at 1/2: (1 - 1/2)/3 = 1/6, and (1 - 1/2)^2/3 = 1/12. The step costs 2 - 1 of 6.
+  assert.deepEqual([meanLoss(three.mean.levels), meanLoss(three.squares.levels, 2)], ["1/6", "1/12"]);
+  assert.equal(stepsSay(three.steps).head, "1/6 (about 0.1666)");
+  assert.equal(homotheticSays(three.homothetic).head, "1/2 (0.5)");
+  const none = parseFit(FIT_OF_NONE);
+  assert.deepEqual(counts(none.violations), [0, 0, 0, 0, 2, 0]);
+  assert.deepEqual([none.kept.least, none.kept.most, goneOf(none.kept)], [2, 2, []]);
+  const heads = [
+    violationsSay(none.violations),
+    keptSays(none.kept),
+    levelsSay(none.mean, "mean"),
+    levelsSay(none.squares, "squares"),
+    stepsSay(none.steps),
+    fitPumpSays(none.pump),
+    quasilinearSays(none.quasilinear),
+    homotheticSays(none.homothetic),
+  ].map((it) => it.head);
+  assert.deepEqual(heads, [
+    "0 of 2 pairs violate GARP",
+    "2 of 2 can stay",
+    "0: nothing has to be ignored",
+    "0: nothing has to be ignored",
+    "0: nothing has to be dropped",
+    "0: nothing is lost",
+    "1: nothing has to be ignored",
+    "1: nothing has to be ignored",
+  ]);
+  assert.equal(goneSay(none.kept, TWO), "No observation has to go.");
+});
+
+test("bounds that do not meet are both told, rounded outward, and an item that is not found is no verdict", () => {
+  const open = parseFit(
+    FIT_OF_TWO.replace("kept 1 of 2", "kept 40 to 41 of 50").replace("/549755813888 exact", "/274877906944")
+      .replace("steps 1/10 to 1/10 exact", "steps 1/7 to 1/3").replace(/quasilinear level [^]*$/, ""),
+  );
+  assert.equal(keptSays(open.kept).head, "From 40 to 41 of 50 can stay");
+  assert.match(keptSays(open.kept).says, /40 of the 50 choices\. No .* more than 41 of them\./);
+  const some = { least: 3, most: 4, of: 5, observations: [1, 2, 4] };
+  const five = { labels: ["1", "2", "third", "4", "5"] };
+  assert.match(goneSay(some, five), /^Without observations 3 \(third\) and 5, .* From 1 to 2 observations of 5 would/);
+  // 219902325555/2199023255552 is less than 1/10, and 54975581389/274877906944 more than 1/5.
+  assert.equal(levelsSay(open.mean, "mean").head, "0.0999 to 0.2001");
+  assert.match(levelsSay(open.mean, "mean").says, /The index is between the two\.$/);
+  assert.equal(stepsSay(open.steps).head, "0.1428 to 0.3334");
+  const cost = stepsSay(open.steps).says;
+  assert.match(cost, /costs 1\/3 \(about 0\.3333\) .* no way costs less than 1\/7 \(about 0\.1428\)\.$/);
+  for (const it of [quasilinearSays(open.quasilinear), homotheticSays(open.homothetic)]) {
+    assert.equal(it.head, "Not found");
+    assert.match(it.says, /not a verdict/);
+  }
+  // Weights that leave less than one unit of cost: the upper bound is the index.
+  const near = parseFit(FIT_OF_TWO.replace("steps 1/10 to 1/10 exact", "steps 1/15 to 1/10 exact"));
+  assert.equal(stepsSay(near.steps).head, "1/10 (0.1)");
+  // What is not 0 does not read 0.
+  const tiny = { low: "1/1099511627776", high: "2/1099511627776", isExact: true };
+  assert.equal(boundsSay(tiny), "0 to 0.0001");
+  assert.deepEqual([rounded("2/3", 4), rounded("2/3", 4, true), rounded("1/2", 4, true)], ["0.6666", "0.6667", "0.5"]);
+  for (const wrong of ["", "usage: rp pairs TABLE\n", REPORT]) assert.throws(() => parseFit(wrong), /gave no indices/);
+});
+
+test("the indices as papers call them, on the page and in a file; and none that adds money of several", () => {
+  const rows = indexRows(parseFit(FIT_OF_TWO));
+  assert.deepEqual(rows.map(({ name, ...it }) => [name, boundsSay(it)]), [
+    ["violations of GARP, share of pairs", "1"],
+    ["CCEI", "4/5 (0.8)"],
+    ["HM, share kept", "1/2 (0.5)"],
+    ["AVI, mean", "about 0.1"],
+    ["AVI, mean of squares", "about 0.02"],
+    ["MCI", "1/10 (0.1)"],
+    ["MPI, maximum", "1/5 (0.2)"],
+    ["quasilinear level", "4/5 (0.8)"],
+    ["homothetic level", "about 0.8"],
+  ]);
+  const records = indexRecords(rows);
+  assert.deepEqual(records[3], ["HM, share kept", "1/2", "0.500000", "1/2", "0.500000"]);
+  assert.deepEqual([records[4][2], records[4][4]], ["0.099999", "0.100001"]);
+  const own = indexRows(parseFit(FIT_OF_TWO), true).map((it) => it.name);
+  assert.deepEqual(own.filter((it) => ["MCI", "MPI, maximum", "quasilinear level"].includes(it)), []);
+  assert.equal(own.length, rows.length - 3);
+});
+
+test("goodness of fit of a unit is in columns before those of an error, rounded down and up", () => {
+  const fields = fitFields({ status: 0, output: FIT_OF_TWO });
+  assert.deepEqual(fields, {
+    garp_pairs: "2",
+    wgarp_pairs: "2",
+    warp_pairs: "2",
+    sarp_pairs: "2",
+    kept: "1",
+    kept_most: "1",
+    levels_low: "0.099999",
+    levels_high: "0.100001",
+    squares_low: "0.019999",
+    squares_high: "0.020001",
+    steps_low: "0.100000",
+    steps_high: "0.100000",
+  });
+  assert.deepEqual(Object.keys(fields), FIT_COLUMNS);
+  const ownMoney = fitFields({ status: 0, output: FIT_OF_TWO }, true);
+  assert.deepEqual([ownMoney.steps_low, ownMoney.steps_high, ownMoney.levels_low], ["", "", "0.099999"]);
+  assert.deepEqual([...new Set(Object.values(fitFields({ status: 4, output: "" })))], [""]);
+  const row = { ...Object.fromEntries(COLUMNS.map((it) => [it, ""])), household: "u", ...fields };
+  const [names, first] = tableRecords([row], "subject", FIT_COLUMNS);
+  assert.equal(names.length, COLUMNS.length + FIT_COLUMNS.length);
+  assert.deepEqual(names.slice(-4), ["steps_high", "fault", "record", "column"]);
+  assert.deepEqual([first[names.indexOf("kept")], first[names.indexOf("levels_high")]], ["1", "0.100001"]);
+});
+
+test("what a checked certificate on goodness of fit proves, item by item", () => {
+  const cycles = (weight) => [{ cycle: [1, 2, 1], weight }];
+  const items = [
+    { item: "violations", garp: "2", wgarp: "2", warp: "2", sarp: "2", observations: "2" },
+    { item: "efficiency", level: "4/5", at_ranks: [2, 2], below: [1, 1], above: [1, 2, 1] },
+    { item: "kept", kept: [1], most: "1", ranks: [0], den: "1", groups: [{ pairs: [1, 2], weight: "1" }] },
+    { item: "levels", measure: "mean", at: [2, 0], ranks: [0, 1], den: "1", cycles: cycles("219902325555") },
+    { item: "levels", measure: "squares", at: [0, 0], ranks: [0, 1], den: "1", cycles: [] },
+    { item: "steps", cost: "1", taken: [[2], []], ranks: [0, 1], den: "1", cycles: cycles("1") },
+    { item: "steps", cost: "3", taken: [[2], []], ranks: [0, 1], den: "2", cycles: cycles("3") },
+    { item: "pump", num: "2", den: "10", cycle: [1, 2, 1], values: ["0", "0"] },
+    { item: "quasilinear_level", num: "8", den: "10", cycle: [1, 2, 1], values: ["0", "0"] },
+    { item: "homothetic_level", low: "879609302220", high: "879609302221", cycle: [1, 2, 1], values: [] },
+  ];
+  const text = JSON.stringify({ items, kind: "fit", version: 1 });
+  assert.deepEqual(checkInWords("accepted items 10\n", text), [
+    "Item 1: 2 pairs violate GARP, 2 WGARP, 2 WARP and 2 SARP; 2 observations in pairs that violate GARP: proved.",
+    "Item 2: the CCEI is 4/5 (0.8), attained: proved.",
+    "Item 3: the maximum number of observations that satisfy GARP together (HM) is 1: proved.",
+    "Item 4: Varian's index (AVI) by the mean is at least 0.099999999999, rounded down, and at most what its levels " +
+      "lose, which are below 1 at 1 observation: proved.",
+    "Item 5: Varian's index (AVI) by the mean of squares is at least 0, rounded down, and at most 0: proved.",
+    "Item 6: the minimum cost of strict preferences to drop (MCI) is 1, in scaled units: proved.",
+    "Item 7: the minimum cost of strict preferences to drop (MCI) is from 3/2 to 3, in scaled units: proved.",
+    "Item 8: the maximum money pump index is 1/5 (0.2): proved.",
+    "Item 9: the level of the quasilinear test is 4/5 (0.8): proved.",
+    "Item 10: the level of the homothetic test is from 0.799999999999 to 0.800000000001, rounded outward: proved.",
+  ]);
+  const own = checkInWords("accepted items 10\n", text, true);
+  assert.deepEqual(own.map((it) => it.includes("says nothing about the data")), [
+    ...Array(5).fill(false),
+    ...Array(4).fill(true),
+    false,
+  ]);
+  const rejected = checkInWords("rejected item 3 Bound place 0\n", text);
+  assert.match(rejected[0], /^Item 3 claims: the maximum number of observations .* is 1\.$/);
+  assert.match(rejected.at(-1), /proves nothing/);
+  // What is of no such form was never accepted, and nothing is read from it.
+  const wrong = '{"items":[{"item":"steps"}],"kind":"fit"}';
+  assert.match(checkInWords("rejected item 1 Number place 1\n", wrong).at(-1), /^Item 1/);
+});
+
+test("a certificate on goodness of fit is checked by the command for its kind", () => {
+  assert.deepEqual(checkedBy("check", '{"items":[],"kind":"fit","version":1}'), ["checkfit", "rp-wide"]);
+  for (const other of ['{"items":[],"kind":"table","version":1}', "none", "null", "[1]", ""]) {
+    assert.deepEqual(checkedBy("check", other), ["check", null]);
+  }
+  assert.deepEqual(checkedBy("checkrandom", '{"kind":"fit"}'), ["checkrandom", null]);
+});
+
+test("the worker says of a module without rp-wide what it says of words that are no command", () => {
+  const source = readFileSync(new URL("worker.js", import.meta.url), "utf8");
+  const texts = () => {
+    throw new Error("the module does not have this call");
+  };
+  const begin = new Function("load", "postMessage", "self", `${source}; library = self.library; return answerOne;`);
+  const old = begin(null, null, { library: { texts, hasWide: false } });
+  const answer = old({ words: ["fit", "t.csv"], files: [], edition: "rp-wide" });
+  assert.ok(lacksFit(answer) && answer.output === "");
+  const asked = [];
+  const has = { hasWide: true, texts: (...given) => (asked.push(given), { status: 0, output: FIT_OF_TWO, told: "" }) };
+  const many = new Function("load", "postMessage", "self", `${source}; library = self.library; return answerPanel;`);
+  const households = [{ household: "u", bytes: bytesOf("p_a,q_a\n") }];
+  const given = { words: ["fit", "table.csv"], households, more: [] };
+  const [found] = many(null, null, { library: has })({ ...given, edition: "rp-wide" });
+  assert.deepEqual([found.household, found.output], ["u", FIT_OF_TWO]);
+  assert.deepEqual(asked.map(([words, , isWide]) => [words, isWide]), [[["fit", "table.csv"], true]]);
+});
+
+test("whether a module answers as rp-wide is known by its calls, before it is asked", async () => {
+  const begin = [0, 0x61, 0x73, 0x6d, 1, 0, 0, 0];
+  // A function of nothing, under the name of the call.
+  const name = [..."rp_answer_wide"].map((it) => it.charCodeAt(0));
+  const [type, own] = [[1, 4, 1, 0x60, 0, 0], [3, 2, 1, 0]];
+  const exported = [7, name.length + 4, 1, name.length, ...name, 0, 0];
+  const wide = [...begin, ...type, ...own, ...exported, 10, 4, 1, 2, 0, 0x0b];
+  const has = async (bytes) => (await load(Uint8Array.from(bytes))).hasWide;
+  assert.deepEqual([await has(begin), await has(wide)], [false, true]);
+});
+
+/** Elements enough for the cards, and no more: their children, and their texts joined. */
+class Element {
+  constructor(name) {
+    [this.name, this.children, this.listeners, this.own] = [name, [], {}, ""];
+  }
+
+  append(...children) {
+    this.children.push(...children);
+  }
+
+  replaceChildren(...children) {
+    this.children = children;
+  }
+
+  addEventListener(kind, does) {
+    this.listeners[kind] = does;
+  }
+
+  contains(it) {
+    return it === this || this.children.some((own) => own.contains?.(it));
+  }
+
+  focus() {
+    document.activeElement = this;
+  }
+
+  setAttribute() {}
+
+  set textContent(text) {
+    [this.children, this.own] = [[], text];
+  }
+
+  get textContent() {
+    return this.own + this.children.map((it) => it.textContent ?? it).join(" ");
+  }
+
+  all(name) {
+    return this.children.flatMap((it) => (it.name ? [...(it.name === name ? [it] : []), ...it.all(name)] : []));
+  }
+}
+
+test("the part on goodness of fit: its cards, what it says where there are none, and how it ends", async () => {
+  globalThis.document = { createElement: (name) => new Element(name) };
+  try {
+    const asked = [];
+    const section = async (answer, { table = TWO, hasOwnMoney = false } = {}) => {
+      const kept = [];
+      const client = { answer: async (...given) => (asked.push(given), answer()), stop: () => {} };
+      const own = fitSection({ client, file: { name: "t.csv" } }, table, hasOwnMoney, (items) => kept.push(items.kept));
+      await new Promise((resolve) => setTimeout(resolve, 0));
+      return { own, kept };
+    };
+    const whole = await section(() => ({ status: 0, output: FIT_OF_TWO, told: "" }));
+    assert.deepEqual(asked[0], [["fit", "t.csv"], [{ name: "t.csv" }], "rp-wide"]);
+    assert.equal(whole.own.all("article").length, 7);
+    assert.deepEqual(goneOf(whole.kept[0]), [2]);
+    assert.match(whole.own.textContent, /1 of 2 can stay \(0\.5\)/);
+    const exchanged = await section(() => ({ status: 0, output: FIT_OF_TWO, told: "" }), { hasOwnMoney: true });
+    assert.equal(exchanged.own.all("article").length, 4);
+    assert.match(exchanged.own.textContent, /has its own unit of money/);
+    const lacks = await section(() => ({ status: 2, output: "", told: "usage: rp pairs TABLE\n" }));
+    assert.ok(lacks.own.textContent.trim().endsWith(LACKS_FIT) && !lacks.kept.length);
+    const refused = await section(() => ({ status: 4, output: "", told: "rp: t.csv: OwnLevels\n" }));
+    assert.match(refused.own.textContent, /OwnLevels\. .*column e/);
+    const stopped = await section(() => {
+      throw new Stopped("stopped");
+    });
+    assert.match(stopped.own.textContent, /Stopped\. Compute the indices$/);
+    const broken = await section(() => ({ status: 0, output: "what is no report\n", told: "" }));
+    assert.match(broken.own.textContent, /No result: the program gave no indices of this table\./);
+    // A long table is asked about by a button alone.
+    const rows = Array(61).fill("1,1,2,2\n").join("");
+    const long = new Purchases(parseRecords(`p_a,q_a,p_b,q_b\n${rows}`, ","));
+    asked.length = 0;
+    const ofLong = FIT_OF_NONE.replaceAll("at 1 1\n", `at ${Array(61).fill(1).join(" ")}\n`);
+    const waits = await section(() => ({ status: 0, output: ofLong, told: "" }), { table: long });
+    assert.match(waits.own.textContent, /With 61 observations this may take some seconds.* Compute the indices$/);
+    assert.equal(asked.length, 0);
+    const [compute] = waits.own.all("button");
+    compute.focus();
+    await compute.listeners.click();
+    assert.equal(asked.length, 1);
+    // Who pressed the button reads on at the head of the part; who did not keeps the focus.
+    assert.equal(document.activeElement, waits.own.all("h3")[0]);
+    document.activeElement = compute;
+    const unasked = await section(() => ({ status: 0, output: FIT_OF_TWO, told: "" }));
+    assert.ok(unasked.own.all("article").length === 7 && document.activeElement === compute);
+  } finally {
+    delete globalThis.document;
+  }
+});
+
+test("the key of a picture has a line more where its entries need it", () => {
+  const entries = [["chosen", "chosen bundle"], ["cross", "would have to go"]];
+  const [wide, narrow] = [640, 250].map((it) => keyPlaces(entries, it));
+  assert.deepEqual(wide.placed.map((it) => it.line), [14, 14]);
+  assert.deepEqual(narrow.placed.map((it) => [it.x, it.line]), [[8, 14], [8, 36]]);
+  assert.ok(narrow.height > wide.height && keyPlaces([], 640).height === 0);
+  assert.ok(wide.placed[1].x >= 42 + 7 * "chosen bundle".length);
 });

@@ -10,8 +10,8 @@ from shared import TOP, text
 
 PAGE = f"{TOP}/page"
 # The page's modules, each after those that it takes names from.
-MODULES = ["facts", "sentences", "dom", "sheets", "reports", "says", "rows", "draws", "pictures", "runs", "client", "benchmark", "slots", "answers"]
-MODULES += ["panels", "questions", "panel_questions", "others", "command", "main"]
+MODULES = ["facts", "sentences", "dom", "sheets", "reports", "says", "fit", "claims", "rows", "draws", "pictures", "runs", "client"]
+MODULES += ["fit_cards", "benchmark", "slots", "answers", "panels", "questions", "panel_questions", "others", "command", "main"]
 EXAMPLES = ["experiment.csv", "contradiction.csv", "levels.csv", "panel/panel.csv", "budgets.csv", "choices.csv", "menus.csv", "technology.csv", "outputs.csv"]
 
 
