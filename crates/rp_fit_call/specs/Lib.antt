@@ -1,0 +1,4 @@
+pub mod FitEndings
+pub mod FitWords
+pub mod InnerEndings
+pub mod NamedFiles
