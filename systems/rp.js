@@ -116,7 +116,7 @@ class Library {
   /**
    * Answers the words after the program's name over files, each `{ name, bytes }` with a `Uint8Array`, of which no more
    * are given than the command names. Gives `{ status, output, told }`, the last two as bytes. With `isWide` it answers
-   * as `rp-wide`: what `rp` withholds is given wherever evidence of it is found.
+   * as `rp-wide`: what `rp` withholds is given wherever evidence of it is found, and `fit` and `checkfit` are answered.
    */
   answer(words, files = [], isWide = false) {
     return this.#answer(isWide ? "rp_answer_wide" : "rp_answer", words, files, MOST_READ, 65536) ?? noMemory("rp");

@@ -1,20 +1,25 @@
 //! The suite as a library that programs in C call: one function over files in memory for each edition of the program and
 //! one for panels, and two that tell which files the words name. They hand their arguments to the library crates of the
-//! same calls, and state those contracts again.
+//! same calls, and state those contracts again. Words of `fit` and `checkfit` have a crate of their own.
 #![tactic(auto)]
 
-ghost use Rattle.std.specs.Prelude.{◌≡◌, pos};
+ghost use Rattle.std.specs.Prelude.{◌≡◌, false, pos, true};
 ghost use Rattle.rp_frame.specs.Frames.{frame_of};
 ghost use Rattle.rp_call.specs.CallEndings.{EndsSo, EndsSoBy, IsDecided, IsDecidedBy};
 ghost use Rattle.rp_call.specs.CallEndings.{ending_number};
 ghost use Rattle.rp_call.specs.NamedFiles.{NamesSo};
 ghost use Rattle.rp_call.specs.declared.ending.Ending.{Ending};
+ghost use Rattle.rp_fit_call.specs.FitEndings as Fits;
+ghost use Rattle.rp_fit_call.specs.FitWords.{asks_fit};
+ghost use Rattle.rp_fit_call.specs.NamedFiles as FitNames;
+ghost use Rattle.rp_fit_call.specs.declared.ending.Ending as FitCall;
 ghost use Rattle.rp_panel_call.specs.NamedFiles as PanelNames;
 ghost use Rattle.rp_panel_call.specs.PanelEndings as Panels;
 ghost use Rattle.rp_panel_call.specs.declared.ending.Ending as PanelCall;
 ghost use Rattle.rp_run_wide.specs.Filling.{as_filled};
 
 use rp_call::{answer, answer_edition, name_files};
+use rp_fit_call::{answer_fit, asks_fit, name_fit_files};
 use rp_panel_call::{answer_panel, name_panel_files};
 use rp_run_wide::Filled;
 use std::alloc::Global;
@@ -51,7 +56,7 @@ pub extern "C" fn rp_answer(
     .number()
 }
 
-/// The same by the edition that fills what is withheld, as `rp-wide` does.
+/// The same by the edition that fills what is withheld, as `rp-wide` does. Words of `fit` and `checkfit` are answered too.
 #[unsafe(no_mangle)]
 pub extern "C" fn rp_answer_wide(
     alloc: Global,
@@ -64,11 +69,31 @@ pub extern "C" fn rp_answer_wide(
     output_length: &mut u64,
     told_length: &mut u64,
 ) -> i32
-    ensures { (ending : Ending) × (result ≡ pos (ending_number ending))
+    ensures answers { asks_fit words.now ≡ false
+        → (ending : Ending) × (result ≡ pos (ending_number ending))
         × EndsSoBy as_filled (frame_of words.now names.now sizes.now bytes.now) ending
         output.old output.new output_length.new told.old told.new told_length.new
         × IsDecidedBy as_filled (frame_of words.now names.now sizes.now bytes.now) ending }
+    ensures answers_on_fit { asks_fit words.now ≡ true
+        → (ending : FitCall.Ending) × (result ≡ pos (Fits.ending_number ending))
+        × Fits.EndsSo (frame_of words.now names.now sizes.now bytes.now) ending
+        output.old output.new output_length.new told.old told.new told_length.new
+        × Fits.IsDecided (frame_of words.now names.now sizes.now bytes.now) ending }
 {
+    if asks_fit(words) {
+        return answer_fit(
+            alloc,
+            words,
+            names,
+            sizes,
+            bytes,
+            output,
+            told,
+            output_length,
+            told_length,
+        )
+        .number();
+    }
     answer_edition::<Filled>(
         alloc,
         words,
@@ -123,9 +148,16 @@ pub extern "C" fn rp_files(
     names: &mut [u8],
     names_length: &mut u64,
 ) -> i32
-    ensures { (ending : Ending) × (result ≡ pos (ending_number ending))
+    ensures names { asks_fit words.now ≡ false
+        → (ending : Ending) × (result ≡ pos (ending_number ending))
         × NamesSo words.now ending names.old names.new names_length.new }
+    ensures names_on_fit { asks_fit words.now ≡ true
+        → (ending : FitCall.Ending) × (result ≡ pos (Fits.ending_number ending))
+        × FitNames.NamesSo words.now ending names.old names.new names_length.new }
 {
+    if asks_fit(words) {
+        return name_fit_files(alloc, words, names, names_length).number();
+    }
     name_files(alloc, words, names, names_length).number()
 }
 
