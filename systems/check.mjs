@@ -133,6 +133,9 @@ expect(ofBounds === '{"status":0,"names":["l.csv","é.csv"]}', "the files of bou
 expect(panelNamesOf(["l.csv", "--pump"]) === '{"status":0,"names":["l.csv"]}', "the file of a panel");
 expect(panelNamesOf(["--pump", "l.csv"]) === '{"status":2,"names":[]}', "the files of words that are none of rp-panel");
 expect(namesOf(["pairs"]) === '{"status":2,"names":[]}', "the files of words that are no line");
+expect(namesOf(["fit", "--json", "é.csv"]) === '{"status":0,"names":["é.csv"]}', "the file of fit");
+expect(namesOf(["checkfit", "t.csv", "c.json"]) === '{"status":0,"names":["t.csv","c.json"]}', "the files of checkfit");
+expect(namesOf(["checkfit", "t.csv"]) === '{"status":2,"names":[]}', "the files of words that checkfit does not take");
 const long = "x".repeat(10000);
 expect(namesOf(["check", long, long]) === JSON.stringify({ status: 0, names: [long, long] }), "long names");
 const held = "p_a,q_a,p_b,q_b\n4194304,2097151,1,4194304\n1,1747627,3145727,2796203\n1,4194304,4194304,2097151\n";
@@ -141,6 +144,14 @@ const [stated, filled] = [false, true].map((isWide) => library.texts(...withheld
 const isFilled = stated.includes("homothetic withheld") && !filled.includes("withheld");
 expect(isFilled, `what rp withholds: ${stated} by the wide call: ${filled}`);
 expect(library.texts([], [], true).told.startsWith("usage: rp-wide "), "the usage of the wide call");
+// Each of two choices contradicts the other, so one of the two can be kept.
+const pair = { name: "t.csv", bytes: Buffer.from("p_a,q_a,p_b,q_b\n1,1,2,2\n2,2,1,1\n") };
+const fitted = library.texts(["fit", "t.csv"], [pair], true);
+expect(fitted.status === 0 && fitted.output.includes("\nkept 1 of 2\n"), `fit by the wide call: ${fitted.output}`);
+const made = { name: "c.json", bytes: library.answer(["fit", "t.csv", "--json"], [pair], true).output };
+const tested = library.texts(["checkfit", "t.csv", "c.json"], [pair, made], true);
+expect(tested.output === "accepted items 9\n", `checkfit by the wide call: ${tested.output}${tested.told}`);
+expect(library.texts(["fit", "t.csv"], [pair]).status === 2, "fit by the call that does not take it");
 const fresh = await load(bytes);
 for (const [words, files] of small) fresh.answer(words, files);
 const before = pages(fresh);

@@ -36,6 +36,7 @@ typedef int32_t Call(
 
 static const char words[] = "analyse\0t.csv", names[] = "t.csv", panel_words[] = "t.csv\0--pump\0--wide";
 static const char demand_words[] = "t.csv\0--demand\0n.csv", welfare_words[] = "t.csv\0--welfare\0n.csv", two_names[] = "t.csv\0n.csv";
+static const char fit_words[] = "fit\0t.csv", check_words[] = "checkfit\0t.csv\0n.csv";
 static const char table[] = "p_a,q_a,p_b,q_b\n1,1,2,2\n2,2,1,1\n";
 /* One for which rp withholds a verdict, and rp-wide gives it. */
 static const char held[] = "p_a,q_a,p_b,q_b\n4194304,2097151,1,4194304\n1,1747627,3145727,2796203\n1,4194304,4194304,2097151\n";
@@ -58,6 +59,8 @@ typedef struct {
 static const Kind kinds[] = {
     {rp_answer, words, sizeof words, names, sizeof names, {table, NULL}, "rp: out of memory\n"},
     {rp_answer_wide, words, sizeof words, names, sizeof names, {held, NULL}, "rp: out of memory\n"},
+    {rp_answer_wide, fit_words, sizeof fit_words, names, sizeof names, {table, NULL}, "rp: out of memory\n"},
+    {rp_answer_wide, check_words, sizeof check_words, two_names, sizeof two_names, {table, "{\"items\":[],\"kind\":\"fit\",\"version\":1}"}, "rp: out of memory\n"},
     {rp_panel, panel_words, sizeof panel_words, names, sizeof names, {panel, NULL}, "rp-panel: out of memory\n"},
     {rp_panel, demand_words, sizeof demand_words, two_names, sizeof two_names, {pair, "p_a,p_b,m\n1,1,3\n"}, "rp-panel: out of memory\n"},
     {rp_panel, welfare_words, sizeof welfare_words, two_names, sizeof two_names, {pair, "p_a,p_b\n1,1\n"}, "rp-panel: out of memory\n"},
@@ -127,7 +130,8 @@ int main(void) {
     int wrong = 0;
     for (size_t it = 0; it < sizeof kinds / sizeof *kinds; it++) wrong |= is_wrong(&kinds[it]);
     long unnamed = name_refused(rp_files, words, sizeof words);
+    long fit_unnamed = name_refused(rp_files, fit_words, sizeof fit_words);
     long long_unnamed = name_refused(rp_panel_files, panel_words, sizeof panel_words);
-    printf("of the calls that name files refused %ld and %ld times\n", unnamed, long_unnamed);
-    return wrong || unnamed <= 0 || long_unnamed <= 0;
+    printf("of the calls that name files refused %ld, %ld and %ld times\n", unnamed, fit_unnamed, long_unnamed);
+    return wrong || unnamed <= 0 || fit_unnamed <= 0 || long_unnamed <= 0;
 }

@@ -1,4 +1,5 @@
-"""Calls of all commands over drawn files, for the scripts that compare two programs: words, and files by their names."""
+"""Calls of all commands over drawn files, for the scripts that compare two programs: words, and files by their names.
+`drawn` has the commands of `rp`, and `fits` has `fit` and `checkfit`, which `rp-wide` alone has."""
 import os
 import subprocess
 
@@ -186,6 +187,70 @@ def drawn(draw, count, native):
             told = {name: it for name, it in {**files, "made.json": data}.items() if name in words}
             yield words, told, native.answer(words, told)
             given += 1
+
+
+def as_call(answer):
+    """Returns an answer of `rp-wide` or `rp-panel` as the library's call gives it: without the hint behind the line of an error,
+    and without a note."""
+    status, out, told = answer
+    before, mark, _ = told.rpartition(b"hint: ")
+    lines = (before if mark else told).splitlines(keepends=True)
+    return status, out, b"".join(it for it in lines if not it.startswith(b"note: "))
+
+
+# Two choices that contradict each other, three of which each contradicts the next in a cycle, and two that are consistent.
+FIT_TABLES = {
+    "pair": "p_a,q_a,p_b,q_b\n1,1,2,2\n2,2,1,1\n",
+    "cycle": "p_a,q_a,p_b,q_b,p_c,q_c\n2,1,1,0,3,0\n3,0,2,1,1,0\n1,0,3,0,2,1\n",
+    "consistent": "p_a,q_a,p_b,q_b\n1,2,2,1\n2,1,1,2\n",
+}
+# Lines of their reports, from the definitions by hand. In the cycle the costs are 2, 1, 3; 3, 2, 1; 1, 3, 2.
+FIT_LINES = {
+    "pair": [
+        "violations garp 2 wgarp 2 warp 2 sarp 2 of 2",
+        "violating observations 2 of 2",
+        "kept 1 of 2",
+        "steps 1/10 to 1/10 exact",
+        "pump 1/5",
+        "quasilinear level 4/5",
+    ],
+    "cycle": [
+        "violations garp 3 wgarp 0 warp 0 sarp 3 of 6",
+        "violating observations 3 of 3",
+        "kept 2 of 3",
+        "steps 1/6 to 1/6 exact",
+        "quasilinear level 1/2",
+    ],
+    "consistent": [
+        "violations garp 0 wgarp 0 warp 0 sarp 0 of 2",
+        "violating observations 0 of 2",
+        "kept 2 of 2",
+        "steps 0 to 0 exact",
+        "quasilinear level 1",
+    ],
+}
+
+
+def fits(draw, count, native):
+    """Gives so many calls of `fit` and `checkfit`, with what a program answers to each: worked and drawn tables, certificates as
+    they are and altered, files with a slip or not there, and words that are not taken."""
+    files = [{"t.csv": it.encode()} for it in FIT_TABLES.values()]
+    given = 0
+    while given < count:
+        own = files[given] if given < len(files) else {"t.csv": table(draw, with_levels=draw.random() < 0.1)[0]}
+        if given >= len(files) and draw.random() < 0.2:
+            own = {"t.csv": spoilt(draw, own["t.csv"])}
+        answer = native.answer(["fit", "t.csv", "--json"], own)
+        yield ["fit", "t.csv", "--json"], own, answer
+        yield ["fit", "t.csv"], own, native.answer(["fit", "t.csv"], own)
+        if answer[0] == 0:
+            for data in (answer[1], altered(draw, answer[1])):
+                both = {**own, "c.json": data}
+                yield ["checkfit", "t.csv", "c.json"], both, native.answer(["checkfit", "t.csv", "c.json"], both)
+        given += 1
+    for words in (["fit"], ["fit", "t.csv", "--more"], ["checkfit", "t.csv"], ["fit", "--json", "t.csv"], ["checkfit", "t.csv", "c.json"]):
+        yield words, files[0], native.answer(words, files[0])
+    yield ["fit", "t.csv"], {}, native.answer(["fit", "t.csv"], {})
 
 
 def largest():

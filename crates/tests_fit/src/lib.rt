@@ -1,7 +1,9 @@
 //! Tests of goodness of fit: evidence that the checker accepts and forged evidence, what searches find, certificates
-//! as JSON, reports, and the program over files in memory.
+//! as JSON, reports, the program over files in memory, and its call.
 #![tactic(auto)]
 
+#[cfg(test)]
+mod calls;
 #[cfg(test)]
 mod directly;
 #[cfg(test)]
