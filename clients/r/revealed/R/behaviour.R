@@ -112,7 +112,8 @@ behaviour <- function(budgets) {
 # ---- tables
 
 rp_panel_table <- function(panel, random = NULL, what = c("summary", "units"), format = c("text", "latex"),
-                           digits = 3, names = NULL, tests = c("garp", "homothetic", "quasilinear"), thresholds = NULL, units = NULL) {
+                           digits = 3, names = NULL, tests = c("garp", "homothetic", "quasilinear"), thresholds = NULL, units = NULL,
+                           fit = FALSE) {
   if (!inherits(panel, "rp_panel")) bad_data("a table is made of what rp_panel gives")
   if (is.null(names)) names <- c(capital(if (is.null(units)) inside(panel)$units else unit_words(units, "")), "Random")
   if (is.null(thresholds)) thresholds <- unlist(catalogue()$thresholds)
@@ -129,9 +130,15 @@ rp_panel_table <- function(panel, random = NULL, what = c("summary", "units"), f
   }
   asked <- tests
   tests <- intersect(tests, tests_of(inside(panel)$own_money))
-  notes <- c(if (!setequal(asked, tests)) paste("quasilinear and money pump are absent:", own_money), offered_line(inside(panel)$offered), inside(panel)$numbers)
-  cells <- if (what == "units") unit_cells(panel, digits, tests) else {
-    sides <- lapply(c(list(panel), if (!is.null(random)) list(random)), summary_cells, digits = digits, tests = tests, thresholds = thresholds)
+  if (!is_switch(fit)) bad_data("fit is TRUE or FALSE")
+  if (fit && inside(panel)$ask != "test") bad_data("fit = TRUE is for panels of tests: rp_panel without ask")
+  notes <- c(
+    if (!setequal(asked, tests)) paste("quasilinear and money pump are absent:", own_money), if (fit && isTRUE(inside(panel)$own_money)) paste("MCI is absent:", own_money),
+    offered_line(inside(panel)$offered), inside(panel)$numbers
+  )
+  cells <- if (what == "units") unit_cells(panel, digits, tests, fit) else {
+    sides <- lapply(c(list(panel), if (!is.null(random)) list(random)), summary_cells, digits = digits, tests = tests, thresholds = thresholds, fit = fit)
+    sides <- of_all_rows(sides)
     named(c(list(names(sides[[1]])), lapply(sides, unname)), c("", names[seq_along(sides)]))
   }
   lines <- if (chosen(format, c("text", "latex"), "format") == "text") c(text_lines(cells), notes) else latex_lines(cells, notes)
@@ -156,8 +163,18 @@ share_told <- function(is) {
   sprintf("between %d and %d of %d (%.1f%% to %.1f%%), %d withheld", holds, most, whole, 100 * holds / whole, 100 * most / whole, withheld)
 }
 
+# Returns the columns of a table with the rows of each of them: where another column alone has a row, it is empty.
+of_all_rows <- function(sides) {
+  if (length(sides) < 2) return(sides)
+  rows <- names(sides[[1]])
+  more <- setdiff(names(sides[[2]]), rows)
+  # A row that only the second has stands where it has it.
+  for (name in more) rows <- append(rows, name, match(names(sides[[2]])[match(name, names(sides[[2]])) - 1], rows))
+  lapply(sides, function(it) named(ifelse(rows %in% names(it), it[rows], ""), rows))
+}
+
 # Returns what a paper tells of a panel, by what it is called.
-summary_cells <- function(panel, digits, tests, thresholds) {
+summary_cells <- function(panel, digits, tests, thresholds, fit = FALSE) {
   frame <- panel_frame(inside(panel))
   own <- frame[answered(panel), ]
   count <- nrow(own)
@@ -179,6 +196,7 @@ summary_cells <- function(panel, digits, tests, thresholds) {
     test = c(
       common, "GARP holds" = share_told(own$garp), index(own$efficiency_exact, "CCEI"),
       named(vapply(thresholds, function(it) share_told(own$efficiency_exact >= exact(it)), ""), paste("CCEI of at least", sub("^(0[.][0-9])$", "\\10", thresholds))),
+      if (fit) fit_cells(panel, digits),
       if ("homothetic" %in% tests) c("Homothetic holds" = share_told(own$homothetic)),
       if ("quasilinear" %in% tests) c("Quasilinear holds" = share_told(own$quasilinear))
     ),
@@ -187,7 +205,7 @@ summary_cells <- function(panel, digits, tests, thresholds) {
   )
 }
 
-unit_cells <- function(panel, digits, tests) {
+unit_cells <- function(panel, digits, tests, fit = FALSE) {
   frame <- panel_frame(inside(panel))
   is_answer <- answered(panel)
   word <- function(x) ifelse(is_answer, verdict_word(x), "")
@@ -200,6 +218,7 @@ unit_cells <- function(panel, digits, tests) {
   own <- switch(inside(panel)$ask,
     test = c(
       list(GARP = word(frame$garp), CCEI = index(frame$efficiency_exact), exactly = told(bare(frame$efficiency_exact))),
+      if (fit) fit_unit_cells(panel, digits),
       lapply(frame[intersect(c("homothetic", "quasilinear"), tests)], word)
     ),
     pump = list(GARP = word(frame$garp), `money pump` = index(frame$pump_exact), exactly = told(bare(frame$pump_exact))),

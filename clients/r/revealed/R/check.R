@@ -2,10 +2,12 @@
 
 rp_check <- function(data, certificate, per = NULL, levels = NULL, exe = NULL, wide = TRUE) {
   of <- files_of(data, per, levels)
-  words <- c(of$command, names(of$files), "certificate.json", units_of(of$per))
-  of$files$certificate.json <- certificate_bytes(certificate)
-  given <- ask_choices(words, of$files, engine_of(exe), of$sheets, wide, good = 0:1)
-  checked <- reading(given$text, checked_from(given$text, given$is_wide))
+  bytes <- certificate_bytes(certificate)
+  is_fit <- of$command == "check" && grepl("\"kind\"[[:space:]]*:[[:space:]]*\"fit\"", text_of_bytes(bytes), useBytes = TRUE)
+  words <- c(if (is_fit) "checkfit" else of$command, names(of$files), "certificate.json", units_of(of$per))
+  of$files$certificate.json <- bytes
+  given <- if (is_fit) asked_fit(words, of, fit_engine(exe)) else ask_choices(words, of$files, engine_of(exe), of$sheets, wide, good = 0:1)
+  checked <- reading(given$text, checked_from(given$text, given$is_wide, is_fit))
   checked$says <- check_says(checked, text_of_bytes(of$files$certificate.json), isTRUE(of$sheets[[1]]$own_money))
   checked
 }
@@ -14,13 +16,18 @@ rp_checkrandom <- function(budgets, choices, certificate, per = NULL, exe = NULL
   rp_check(list(budgets = budgets, choices = choices), certificate, per, exe = exe, wide = wide)
 }
 
-checked_from <- function(text, is_wide = FALSE) {
-  said <- numbers_of(sub("\n$", "", text), "^(accepted items ([0-9]+) withheld ([0-9]+)|rejected item ([0-9]+) ([A-Za-z]+) place ([0-9]+))$")
+# Goodness of fit is checked by the wider edition, which alone has it.
+asked_fit <- function(words, of, engine) list(text = text_of(long_answer(words, of$files, engine), of$sheets, good = 0:1), is_wide = TRUE)
+
+checked_from <- function(text, is_wide = FALSE, is_fit = FALSE) {
+  # A certificate on goodness of fit leaves nothing undetermined.
+  line <- sub("\n$", "", text)
+  said <- numbers_of(if (is_fit) sub("^(accepted items [0-9]+)$", "\\1 withheld 0", line) else line, "^(accepted items ([0-9]+) withheld ([0-9]+)|rejected item ([0-9]+) ([A-Za-z]+) place ([0-9]+))$")
   accepted <- startsWith(text, "accepted")
   number <- function(at) if (nzchar(said[at])) as.integer(said[at]) else NA_integer_
   structure(class = "rp_checked", list(
     accepted = accepted, items = number(2), withheld = number(3), item = number(4), reason = if (accepted) NA_character_ else said[5],
-    place = number(6), wide = is_wide, line = said[1]
+    place = number(6), wide = is_wide, line = line
   ))
 }
 
@@ -52,6 +59,7 @@ item_says <- function(item, levels = NULL, own_money = FALSE) {
   kind <- item$item
   has <- function(name) name %in% names(item)
   if (has("withheld")) return(paste(kind, "withheld"))
+  if (kind %in% names(fit_says)) return(fit_says[[kind]](item))
   bound <- function(it) if ("withheld" %in% names(it)) "withheld" else it$value
   if (kind == "efficiency") return(paste("efficiency", item$level, "attained", if (has("at_ranks")) "yes" else "no"))
   if (kind == "random") return(if (has("weights")) paste("random violated, maximum share", share_made(item)) else "random mixture")
@@ -65,6 +73,17 @@ item_says <- function(item, levels = NULL, own_money = FALSE) {
   if (kind == "quasilinear" && own_money) said <- paste(said, "on the exchanged intercepts as prices of one unit of money, which is not told of the data")
   said
 }
+
+# What the items on goodness of fit say, in a few words.
+fit_says <- list(
+  violations = function(it) paste0("violations: garp ", it$garp, ", wgarp ", it$wgarp, ", warp ", it$warp, ", sarp ", it$sarp, ", observations ", it$observations),
+  kept = function(it) paste0("kept ", length(it$kept), if (length(it$kept) != as.numeric(it$most)) paste(" to", it$most)),
+  levels = function(it) paste("levels,", c(mean = "mean of 1 - e", squares = "mean of (1 - e)^2")[[it$measure]], "between the bounds of this evidence"),
+  steps = function(it) paste("steps of a cost of at most", it$cost, "(scaled)"),
+  pump = function(it) paste("pump", fraction(it$num, it$den)),
+  quasilinear_level = function(it) paste("quasilinear level", fraction(it$num, it$den)),
+  homothetic_level = function(it) paste("homothetic level", fraction(it$low, "1099511627776"), "to", fraction(it$high, "1099511627776"))
+)
 
 # Returns levels in thousandths as shares, the first eight of them.
 levels_told <- function(levels) {
@@ -81,7 +100,7 @@ share_made <- function(item) {
 # Returns the files of some data: an answer, a table, or the names of files; or budgets and choices.
 files_of <- function(data, per, levels) {
   if (inherits(data, "rp_random")) data <- data$choices
-  if (inherits(data, c("rp_test", "rp_demand", "rp_welfare"))) data <- data$table
+  if (inherits(data, c("rp_test", "rp_demand", "rp_welfare", "rp_fit"))) data <- data$table
   if (is.character(data) && is.null(dim(data)) && length(data) %in% 1:2) return(named_files(data, per, levels))
   if (is.list(data) && !is.data.frame(data) && !inherits(data, c("rp_table", "rp_choices"))) {
     if (length(data) != 2) bad_data("data: a list has prices and quantities, or budgets and choices")
@@ -114,7 +133,10 @@ file_bytes <- function(path) {
 # Returns the bytes of a certificate: an answer's own, a text, or those of a file. A text of one line that is the name of
 # a file is taken as that, unless it begins with a brace or a bracket.
 certificate_bytes <- function(certificate) {
-  if (inherits(certificate, c("rp_test", "rp_demand", "rp_welfare", "rp_random"))) certificate <- certificate$certificate
+  if (inherits(certificate, "rp_fit") && is.null(certificate$certificate)) {
+    bad_data("the fit of a unit of a panel has no certificate: call rp_fit on the rows of the unit, or keep the certificates of all by certificates =")
+  }
+  if (inherits(certificate, c("rp_test", "rp_demand", "rp_welfare", "rp_random", "rp_fit"))) certificate <- certificate$certificate
   if (is.raw(certificate)) return(certificate)
   if (!is.character(certificate) || !length(certificate) || anyNA(certificate)) bad_data("a certificate is an answer, a text, or the name of a file")
   text <- paste(certificate, collapse = "\n")

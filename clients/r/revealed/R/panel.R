@@ -32,7 +32,8 @@ rp_panel <- function(data, by = id, ask = c("test", "pump", "power"), decimals =
   stop_where_all_are_refused(texts[, "fault"], refusal, keys, units)
   own <- list2env(list(
     keys = keys, texts = with_places(texts, long, data), ask = kind, data = data, id = id, forms = forms, levels = sides$levels,
-    own_money = sides$own_money, units = units, places = long$rows, sides = sides, offered = long$offered, numbers = numbers_line(long)
+    own_money = sides$own_money, units = units, places = long$rows, sides = sides, offered = long$offered, numbers = numbers_line(long), exe = exe,
+    workers = workers, progress = progress
   ))
   # Why units have no verdicts is put into words where it is looked at.
   delayedAssign("refusals", lapply(seq_along(long$rows), function(at) of_unit(refusal(at), keys[at, , drop = FALSE])), assign.env = own)

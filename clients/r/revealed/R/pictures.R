@@ -110,9 +110,11 @@ nearest_text <- function(text, digits) {
 # Draws the distribution of the index over the units of a panel, and beside it that of another, such as random behaviour on the same
 # budgets (after Choi, Fisman, Gale and Kariv 2007), with the share of each of at least 0.90 and 0.95. An index of exactly 1 has a bar of its own.
 plot.rp_panel <- function(x, random = NULL, type = c("histogram", "cumulative"), breaks = seq(0, 1, 0.05), main = NULL, xlab = NULL, ylab = NULL,
-                          names = NULL, ...) {
+                          names = NULL, fit = FALSE, ...) {
   type <- chosen(type, c("histogram", "cumulative"), "type")
   if (is.null(names)) names <- c(inside(x)$units, "random behaviour")
+  if (!is_switch(fit)) bad_data("fit is TRUE or FALSE")
+  if (fit) return(draw_fits(x, random, type, breaks, main, ylab, names, ...))
   own <- list(index_of(x))
   if (!is.null(random)) {
     if (!inherits(random, "rp_panel") || inside(random)$ask != inside(x)$ask) bad_data("random is a panel of the same kind, as rp_random_panel makes it")
@@ -126,6 +128,34 @@ plot.rp_panel <- function(x, random = NULL, type = c("histogram", "cumulative"),
   words <- paste0(names[seq_along(own)], " (", lengths(own), ")")
   if (is_test) words <- paste0(words, ": ", vapply(c(list(x), if (!is.null(random)) list(random)), shares_above, ""))
   graphics::legend(if (is_test) "topleft" else "topright", words, fill = ink[c("own", "other")][seq_along(own)], border = NA, bty = "n", cex = 0.9)
+  invisible(x)
+}
+
+# Draws the distributions of the CCEI, HM, AVI and MCI over the units of a panel, each in a picture of its own. A unit whose bounds do not
+# meet is at the bound that is further from rational choice, and what stands below the picture says of how many units this is so.
+draw_fits <- function(x, random, type, breaks, main, ylab, names, ...) {
+  panels <- c(list(x), if (!is.null(random)) list(random))
+  for (it in panels) if (!inherits(it, "rp_panel") || inside(it)$ask != "test") bad_data("fit = TRUE is for panels of tests: rp_panel without ask")
+  if (!all(vapply(panels, function(it) any(answered(it)), TRUE))) bad_data("none of the ", inside(x)$units, " has a verdict, so there is no picture")
+  fits <- lapply(panels, panel_fits)
+  old <- graphics::par(mfrow = c(2, 2))
+  on.exit(graphics::par(old))
+  if (is.null(ylab)) ylab <- if (type == "histogram") "share of each" else "share at or below"
+  draw <- function(own, breaks, xlab, best) {
+    if (type == "histogram") draw_histogram(own, breaks, xlab, ylab, main, has_spike = TRUE, spike = best, ...) else draw_cumulative(own, xlab, ylab, main, ...)
+  }
+  draw(lapply(panels, index_of), breaks, "CCEI", 1)
+  words <- paste0(names[seq_along(panels)], " (", lengths(fits), ")")
+  graphics::legend("topleft", words, fill = ink[c("own", "other")][seq_along(panels)], border = NA, bty = "n", cex = 0.9)
+  for (name in base::names(paper_indices)) {
+    bounds <- lapply(fits, paper_bounds, name = name)
+    if (!all(vapply(bounds, function(it) it$there, TRUE))) next
+    is_share <- name == "HM"
+    own <- lapply(bounds, function(it) nearest_double(if (is_share) it$low else it$high))
+    open <- sum(vapply(bounds, function(it) it$open, 0L))
+    said <- paste0(c(HM = "HM (share kept)", AVI = "AVI (mean of 1 - e)", MCI = "MCI")[[name]], if (open) paste0(", ", if (is_share) "lower" else "upper", " bounds of ", open))
+    draw(own, if (is_share) breaks else pretty(c(0, max(unlist(own), 0.01)), 10), said, if (is_share) 1 else 0)
+  }
   invisible(x)
 }
 
@@ -143,11 +173,14 @@ index_of <- function(x) {
   as.double(exact(unname(inside(x)$texts[own, c(test = "efficiency", pump = "pump", power = "power")[[inside(x)$ask]]])))
 }
 
-# Draws bars of shares. With `has_spike` a value of exactly 1 is in no bin, and has a bar of its own behind them.
-draw_histogram <- function(own, breaks, xlab, ylab, main, has_spike = FALSE, ...) {
-  breaks <- sort(unique(as.numeric(breaks)))
+# Draws bars of shares. With `has_spike` a value of exactly 1 is in no bin, and has a bar of its own behind them. A spike at 0 is that at the
+# end of the scale of the numbers with a sign before them, whose direction is turned.
+draw_histogram <- function(own, breaks, xlab, ylab, main, has_spike = FALSE, spike = 1, ...) {
+  sign <- if (spike == 0) -1 else 1
+  own <- lapply(own, function(it) sign * it)
+  breaks <- sort(unique(sign * as.numeric(breaks)))
   if (length(breaks) < 2 || min(unlist(own)) < breaks[1] || max(unlist(own)) > breaks[length(breaks)]) bad_data("the breaks do not hold every index")
-  shares <- lapply(own, shares_in, breaks = breaks, has_spike = has_spike)
+  shares <- lapply(own, shares_in, breaks = breaks, has_spike = has_spike, spike = spike)
   used <- range(which(Reduce(`+`, shares) > 0))
   last <- length(breaks) - 1
   bins <- seq(max(1, min(used[1], last) - 1), if (has_spike) last else min(last, used[2] + 1))
@@ -160,7 +193,8 @@ draw_histogram <- function(own, breaks, xlab, ylab, main, has_spike = FALSE, ...
     bins <- c(bins, last + 1)
   }
   graphics::plot.new()
-  graphics::plot.window(c(left[1], max(left + width)), c(0, max(unlist(shares)) * 1.15), yaxs = "i", ...)
+  across <- c(left[1], max(left + width))
+  graphics::plot.window(if (spike == 0) rev(across) else across, c(0, max(unlist(shares)) * 1.15), yaxs = "i", ...)
   for (side in seq_along(own)) {
     from <- left + width * (0.08 + 0.84 * (side - 1) / length(own))
     graphics::rect(from, 0, from + 0.84 * width / length(own), shares[[side]][bins], col = ink[c("own", "other")][side], border = NA)
@@ -169,10 +203,10 @@ draw_histogram <- function(own, breaks, xlab, ylab, main, has_spike = FALSE, ...
     # The bins end at 1, and the bar behind them is of an index of 1, so its tick is no part of the scale.
     ticks <- pretty(breaks[c(bins[1], last + 1)])
     ticks <- ticks[ticks >= left[1] & ticks < breaks[last + 1] + width[1] / 4]
-    graphics::axis(1, ticks, ifelse(abs(ticks - 1) < 1e-9, "1", format(ticks)))
+    graphics::axis(1, ticks, ifelse(abs(ticks - spike) < 1e-9, as.character(spike), format(abs(ticks))))
     middle <- left[length(left)] + width[length(width)] / 2
     graphics::axis(1, middle, FALSE)
-    graphics::mtext("exactly 1", 1, 1.9, at = middle, cex = graphics::par("cex") * graphics::par("cex.axis"))
+    graphics::mtext(paste("exactly", spike), 1, 1.9, at = middle, cex = graphics::par("cex") * graphics::par("cex.axis"))
   } else {
     graphics::axis(1)
   }
@@ -180,9 +214,9 @@ draw_histogram <- function(own, breaks, xlab, ylab, main, has_spike = FALSE, ...
   graphics::title(main = main, xlab = xlab, ylab = ylab)
 }
 
-# Returns the share of values in each bin, which has its right end and not its left one, and behind them that of exactly 1.
-shares_in <- function(values, breaks, has_spike) {
-  is_one <- has_spike & values == 1
+# Returns the share of values in each bin, which has its right end and not its left one, and behind them that of exactly 1, or 0.
+shares_in <- function(values, breaks, has_spike, spike = 1) {
+  is_one <- has_spike & values == spike
   bins <- findInterval(values[!is_one], breaks, left.open = TRUE, rightmost.closed = TRUE)
   c(tabulate(bins, length(breaks) - 1), if (has_spike) sum(is_one)) / length(values)
 }

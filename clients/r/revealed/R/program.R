@@ -12,7 +12,11 @@ engine_of <- function(exe = NULL) {
 # RP_WIDE names, or that stands beside the program.
 wide_engine <- function(engine) {
   call <- if (!is.null(engine$call)) library_call(engine$path, "wide")
-  if (!is.null(call)) return(list(call = call))
+  if (!is.null(call)) list(call = call) else wide_program(engine)
+}
+
+# Returns the wider program as what answers, or NULL.
+wide_program <- function(engine) {
   named <- Sys.getenv("RP_WIDE")
   found <- if (nzchar(named)) on_path(named) else if (!is.null(engine$program)) Find(is_program, wide_places(engine$program))
   if (nzchar(named) && (is.null(found) || is_library(found))) no_program("the variable RP_WIDE names ", quoted(named), ", which is no program")
@@ -159,21 +163,30 @@ by_program <- function(words, batch, exe, shell = !on_windows()) {
   room <- tempfile("revealed-")
   dir.create(room)
   on.exit(unlink(room, recursive = TRUE))
-  folders <- file.path(room, seq_along(batch))
-  for (at in seq_along(batch)) {
-    dir.create(folders[at])
-    for (name in names(batch[[at]])) write_file(batch[[at]][[name]], file.path(folders[at], name))
-  }
+  folders <- folders_of(batch, room)
   if (!shell) return(lapply(folders, run_in, words = words, exe = exe))
   line <- paste(
     "{ cd", shQuote(room), "&& n=0 && while [ $n -lt", length(batch), "]; do n=$((n + 1)); cd $n || exit;", shQuote(exe),
     paste(shQuote(words), collapse = " "), ">out 2>err </dev/null; echo $? >status; cd ..; done; } 2>/dev/null"
   )
   system(line)
-  lapply(folders, function(folder) {
-    status <- suppressWarnings(as.integer(read_text(file.path(folder, "status"))))
-    ended(status, read_text(file.path(folder, "out")), read_text(file.path(folder, "err")))
-  })
+  lapply(folders, ended_in)
+}
+
+# Writes each list of files to a folder of its own within a room, and returns these folders.
+folders_of <- function(batch, room) {
+  folders <- file.path(room, seq_along(batch))
+  for (at in seq_along(batch)) {
+    dir.create(folders[at])
+    for (name in names(batch[[at]])) write_file(batch[[at]][[name]], file.path(folders[at], name))
+  }
+  folders
+}
+
+# Returns how a call ended in a folder, by what it left there.
+ended_in <- function(folder) {
+  status <- suppressWarnings(as.integer(read_text(file.path(folder, "status"))))
+  ended(status, read_text(file.path(folder, "out")), read_text(file.path(folder, "err")))
 }
 
 # Runs the program in a folder without a shell, as Windows starts programs, and returns how it ended.

@@ -1,6 +1,6 @@
-# A call that may take long: by a process of its own, while R waits, says how long that has taken, and can be interrupted.
+# Calls that may take long: by processes of their own, while R waits, says how long that has taken, and can be interrupted.
 
-# So many seconds pass between two looks at the process, at most, and until a user is told that it works, and again.
+# So many seconds pass between two looks at a process, at most, and until a user is told that it works, and again.
 looks <- 0.2
 tells <- 5
 is_watched <- function() interactive() || isatty(stderr())
@@ -8,63 +8,104 @@ is_watched <- function() interactive() || isatty(stderr())
 # Functions of R that Windows has not.
 of_copies <- function(name) get(name, asNamespace("parallel"))
 
-# Returns how a call ended, as `answer` does. If R is interrupted, what works is ended, and that is said. On Windows, where R has no copies
-# of its process, the call is made in this one.
-long_answer <- function(words, files, engine, windows = on_windows()) {
-  if (windows) return(answer(words, files, engine))
-  work <- if (is.null(engine$call)) started_program(words, files, engine$program) else started_copy(words, files, engine)
-  on.exit(work$close())
+# Returns how a call ended, as `answer` does.
+long_answer <- function(words, files, engine, windows = on_windows()) long_answers(list(one_job(words, files)), engine, windows = windows)[[1]][[1]]
+
+# Returns the job of one call.
+one_job <- function(words, files) list(words = words, batch = list(files))
+
+# Returns how the calls of each job ended, as `answers` does. At most so many jobs are worked on at once, and `done` is told the number of
+# each that has ended. If R is interrupted, what works is ended, and that is said. On Windows, where R has no copies of its process, the
+# calls are made in this one.
+long_answers <- function(jobs, engine, workers = 1L, done = NULL, windows = on_windows()) {
+  found <- vector("list", length(jobs))
+  ended <- function(at, own) {
+    found[[at]] <<- own
+    if (!is.null(done)) done(at)
+  }
+  if (windows) {
+    for (at in seq_along(jobs)) ended(at, answers(jobs[[at]]$words, jobs[[at]]$batch, engine))
+    return(found)
+  }
+  works <- list()
+  close_all <- function() for (work in works) work$close()
+  on.exit(close_all())
   began <- proc.time()[["elapsed"]]
   passed <- function() proc.time()[["elapsed"]] - began
   told <- 0
   pause <- 0.005
+  started <- 0
   withCallingHandlers(
-    repeat {
-      found <- work$look(pause)
-      if (!is.null(found)) break
-      pause <- min(looks, 2 * pause)
-      if (is_watched() && passed() > told + tells) {
+    while (started < length(jobs) || length(works)) {
+      while (started < length(jobs) && length(works) < workers) {
+        started <- started + 1
+        works[[as.character(started)]] <- started_job(jobs[[started]], engine)
+      }
+      looked <- lapply(works, function(work) work$look(pause / length(works)))
+      over <- names(works)[!vapply(looked, is.null, TRUE)]
+      for (name in over) {
+        works[[name]]$close()
+        works[[name]] <- NULL
+        ended(as.integer(name), looked[[name]])
+      }
+      pause <- if (length(over)) 0.005 else min(looks, 2 * pause)
+      if (is.null(done) && is_watched() && length(works) && passed() > told + tells) {
         told <- passed()
         message(sprintf("rp-wide has worked for %.0f s; Esc or Ctrl-C ends it", told))
       }
     },
     interrupt = function(wrong) {
-      work$close()
+      close_all()
       message(sprintf("rp-wide was ended after %.0f s, and there is no result", passed()))
     }
   )
   found
 }
 
-# Starts the program over files in a folder of its own. `look` gives how it ended, after a pause, or NULL while it works; `close` ends it.
-started_program <- function(words, files, exe) {
+# Starts a job. `look` gives how its calls ended, after a pause, or NULL while it works; `close` ends it.
+started_job <- function(job, engine) {
+  if (is.null(engine$call)) started_program(job$words, job$batch, engine$program) else started_copy(job$words, job$batch, engine)
+}
+
+# Starts the program over one list of files after another, each in a folder of its own.
+started_program <- function(words, batch, exe) {
   room <- tempfile("revealed-")
   dir.create(room)
-  for (name in names(files)) write_file(files[[name]], file.path(room, name))
+  folders <- folders_of(batch, room)
   place <- function(name) file.path(room, name)
   line <- paste(
-    "cd", shQuote(room), "&& {", shQuote(exe), paste(shQuote(words), collapse = " "), ">out 2>err </dev/null & echo $! >number; wait $!; echo $? >ends;",
-    "mv ends status; }"
+    "cd", shQuote(room), "&& { n=0; while [ $n -lt", length(batch), "] && [ ! -e stop ]; do n=$((n + 1)); cd $n || exit;", shQuote(exe),
+    paste(shQuote(words), collapse = " "), ">out 2>err </dev/null & echo $! >number; wait $!; echo $? >ends; mv ends status; cd ..; done; : >over; }"
   )
   system(paste0("( ", line, " ) >/dev/null 2>&1"), wait = FALSE)
-  for (at in 1:400) if (!file.exists(place("number"))) Sys.sleep(0.005)
+  for (at in 1:400) if (!file.exists(file.path(folders[1], "number"))) Sys.sleep(0.005)
+  # Returns the number of the process that works now, if there is one.
+  working <- function() {
+    own <- folders[file.exists(file.path(folders, "number")) & !file.exists(file.path(folders, "status"))]
+    number <- if (length(own)) suppressWarnings(as.integer(read_text(file.path(own[1], "number"))))
+    number[!is.na(number)]
+  }
   list(
     look = function(pause) {
       Sys.sleep(pause)
-      if (!file.exists(place("status"))) return(NULL)
-      ended(as.integer(read_text(place("status"))), read_text(place("out")), read_text(place("err")))
+      if (file.exists(place("over"))) lapply(folders, ended_in)
     },
     close = function() {
-      number <- if (file.exists(place("number")) && !file.exists(place("status"))) suppressWarnings(as.integer(read_text(place("number"))))
-      if (length(number) && !is.na(number)) tools::pskill(number, tools::SIGKILL)
+      if (!dir.exists(room)) return(invisible())
+      file.create(place("stop"))
+      for (at in 1:40) {
+        if (file.exists(place("over"))) break
+        for (number in working()) tools::pskill(number, tools::SIGKILL)
+        Sys.sleep(0.01)
+      }
       unlink(room, recursive = TRUE)
     }
   )
 }
 
-# Starts a call of the library in a copy of this process.
-started_copy <- function(words, files, engine) {
-  job <- of_copies("mcparallel")(answer(words, files, engine), mc.set.seed = FALSE, silent = TRUE)
+# Starts calls of the library in a copy of this process.
+started_copy <- function(words, batch, engine) {
+  job <- of_copies("mcparallel")(answers(words, batch, engine), mc.set.seed = FALSE, silent = TRUE)
   # The copy that has ended is forgotten by a second look at it.
   collected <- function(pause) suppressWarnings(of_copies("mccollect")(job, wait = FALSE, timeout = pause))
   list(
