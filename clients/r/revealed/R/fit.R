@@ -456,7 +456,7 @@ paper_bounds <- function(fits, name) {
 }
 
 # Returns the distribution of the CCEI and of each index of papers over fits, as texts. A mean, a quantile or an end of the lower bounds
-# is no greater than that of the index, so where bounds do not meet both are told. Of a standard deviation this is not so.
+# is no greater than that of the index, and so for the upper ones: both are told where they differ. Of a standard deviation this is not so.
 fit_stats <- function(fits, digits) {
   index <- exact(vapply(fits, function(it) bare(it$efficiency), ""))
   bounds <- c(list(CCEI = list(low = index, high = index, open = 0, there = TRUE)), by_names(names(paper_indices), function(it) paper_bounds(fits, it)))
@@ -464,7 +464,8 @@ fit_stats <- function(fits, digits) {
   lapply(bounds, function(it) {
     of <- function(make) {
       ends <- c(shown_index(make(it$low), digits), shown_index(make(it$high), digits))
-      if (it$open) paste(ends, collapse = " to ") else ends[2]
+      # Where both ends read alike, so does the index between them.
+      paste(unique(ends), collapse = " to ")
     }
     if (!length(fits)) return(named(rep("", 5), c("mean", "standard deviation", "minimum", "median", "maximum")))
     deviation <- if (it$open) "not known" else if (length(fits) > 1) sprintf("%.*f", digits, stats::sd(nearest_double(it$high))) else "none"

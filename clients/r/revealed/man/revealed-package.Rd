@@ -14,6 +14,7 @@ Question \tab Call \cr
 Could one utility maximizer have made all choices? \tab \code{\link{rp_test}} \cr
 The same for each unit of a panel \tab \code{\link{rp_panel}} \cr
 The table and the figure of a paper \tab \code{\link{rp_panel_table}}, \code{\link{plot.rp_panel}} \cr
+How far are the choices from GARP? \tab \code{\link{rp_fit}} \cr
 Would random choices have passed? \tab \code{\link{rp_random_panel}}, \code{\link{rp_power}} \cr
 How much money could violations cost? \tab \code{\link{rp_money_pump}} \cr
 What could be chosen at new prices? \tab \code{\link{rp_demand}} \cr

@@ -10,7 +10,8 @@ each unit. The table is text or LaTeX.
 \usage{
 rp_panel_table(panel, random = NULL, what = c("summary", "units"),
   format = c("text", "latex"), digits = 3, names = NULL,
-  tests = c("garp", "homothetic", "quasilinear"), thresholds = NULL, units = NULL)
+  tests = c("garp", "homothetic", "quasilinear"), thresholds = NULL, units = NULL,
+  fit = FALSE)
 }
 \arguments{
 \item{panel}{a result of \code{\link{rp_panel}}.}
@@ -25,8 +26,13 @@ rp_panel_table(panel, random = NULL, what = c("summary", "units"),
 says why.}
 \item{thresholds}{levels from 0 to 1, such as \code{c(0.95, 0.90)}. The table has the share of units whose index is at least each
 level. The default is 0.99, 0.95 and 0.90.}
+\item{fit}{whether the table has the Houtman-Maks index (HM), Varian's index (AVI) and the minimum cost index (MCI) of
+\code{\link{rp_fit}} too. They are computed when they are first needed, which takes longer than the tests, and are kept with the panel.}
 }
 \details{
+With \code{fit = TRUE}, both bounds are printed where the bounds of an index do not meet. The summary then says of how many units this is
+so, and has no standard deviation of that index. For budget lines by intercepts MCI is left out, and a line below the table says why.
+
 The Python package rounds by the same rule. Characters that are special in LaTeX are escaped.
 }
 \value{
@@ -34,7 +40,8 @@ The lines of the table. \code{print} shows them, and \code{writeLines} writes th
 }
 \section{Methods and formulas}{
 The summary has the number of units, and the mean, standard deviation, median and shares of the index. Thresholds of the CCEI are
-discussed by Varian (1991).
+discussed by Varian (1991). HM is the share of observations kept, AVI the mean of \eqn{1 - e}{1 - e}, and MCI a share of total
+expenditure: see \code{\link{rp_fit}}.
 }
 \references{
 Afriat, S. N. (1973). On a System of Inequalities in Demand Analysis: An Extension of the Classical Method. \emph{International Economic Review} 14, 460--472.
@@ -43,7 +50,7 @@ Bronars, S. G. (1987). The Power of Nonparametric Tests of Preference Maximizati
 
 Varian, H. R. (1991). Goodness-of-Fit for Revealed Preference Tests. Working paper, University of Michigan.
 }
-\seealso{\code{\link{rp_panel}}, \code{\link{rp_random_panel}}, \code{\link{plot.rp_panel}}}
+\seealso{\code{\link{rp_panel}}, \code{\link{rp_fit}}, \code{\link{rp_random_panel}}, \code{\link{plot.rp_panel}}}
 \examples{
 if (!is.null(rp_program(must = FALSE))) {
   long <- data.frame(
