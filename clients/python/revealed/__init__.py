@@ -27,6 +27,7 @@ from .commands import (
     demand,
     demand_bounds,
     first_contradiction,
+    fit,
     menu_choices,
     menus,
     money_pump,
@@ -45,6 +46,8 @@ from .commands import (
     welfare_bounds,
 )
 from .faults import AllRefused, BadData, Failed, NoFile, NoProgram, Pooled, Problem, Refused, Unreadable, WrongColumns
+from .fit_panels import FitPanel, UnitFit, panel_fit
+from .goodness import Fit, Index
 from .measures import CostBound, CostMinimisation, MenuVerdict, MoneyPump, OrderPart, Power, Trial
 from .offered import Offered, Overspent
 from .panels import Panel, Row, panel
@@ -66,6 +69,9 @@ __all__ = [
     "Failed",
     "Finding",
     "Findings",
+    "Fit",
+    "FitPanel",
+    "Index",
     "MenuChoices",
     "MenuVerdict",
     "MoneyPump",
@@ -90,6 +96,7 @@ __all__ = [
     "Technology",
     "Trial",
     "UnitBounds",
+    "UnitFit",
     "Unreadable",
     "Verdict",
     "Welfare",
@@ -106,6 +113,7 @@ __all__ = [
     "demand_bounds",
     "draws",
     "first_contradiction",
+    "fit",
     "from_frame",
     "menu_choices",
     "menus",
@@ -113,6 +121,7 @@ __all__ = [
     "pairs",
     "panel",
     "panel_demand",
+    "panel_fit",
     "panel_task",
     "panel_welfare",
     "patches",

@@ -620,17 +620,19 @@ class Checked:
     certificate is rejected, it says what the first item that fails claims, what is wrong with it, and what a rejection means.
     """
 
-    def __init__(self, line: str, certificate: bytes, wide: bool = False, own_money: bool = False) -> None:
+    def __init__(self, line: str, certificate: bytes, wide: bool = False, own_money: bool = False, table: bytes | None = None) -> None:
         self.line = line.strip()
         self.wide = wide
         self._own_money = own_money
+        # Of a certificate on goodness of fit, which says what it says of a table.
+        self._table = table
         words = line.split()
         with reading(line.encode()):
             self.accepted = words[0] == "accepted"
             if not self.accepted and words[0] != "rejected":
                 raise ValueError("neither accepted nor rejected")
             self.items = int(words[2]) if self.accepted else None
-            self.withheld = int(words[4]) if self.accepted else None
+            self.withheld = None if not self.accepted else 0 if table is not None else int(words[4])
             self.item = None if self.accepted else int(words[2])
             self.reason = None if self.accepted else words[3]
             self.place = None if self.accepted else int(words[5])
@@ -639,13 +641,13 @@ class Checked:
 
     def _accepted_says(self, certificate: bytes) -> list[str]:
         """Returns what each item says. The program read the certificate and accepted it, so the values are those that it looked at."""
-        own = items_told(certificate, self._own_money)
+        own = items_told(certificate, self._own_money, self._table)
         return [f"item {number} {told}: {'nothing is said' if 'withheld' in item else 'proved'}" for number, (item, told) in enumerate(own, 1)]
 
     def _rejected_says(self, certificate: bytes) -> list[str]:
         """Returns what the item that fails claims, why it fails, and what that means."""
         try:
-            claims = items_told(certificate, self._own_money)
+            claims = items_told(certificate, self._own_money) if self._table is None else []
         except Unreadable:
             claims = []
         item = self.item or 0
@@ -664,10 +666,13 @@ ADD_MONEY = ("quasilinear", "pump", "steps", "quasilinear_level")
 OF_PRICES = "on the exchanged intercepts as prices of one unit of money, which is not told of the data"
 
 
-def items_told(certificate: bytes, own_money: bool) -> list[tuple[dict[str, Any], str]]:
-    """Returns the items of a certificate, each with its verdict in words."""
+def items_told(certificate: bytes, own_money: bool, table: bytes | None = None) -> list[tuple[dict[str, Any], str]]:
+    """Returns the items of a certificate, each with its verdict in words; of one on goodness of fit with what they say of a table."""
     own = Certificate(certificate)
     with reading(certificate):
-        levels = json.loads(certificate).get("levels", ())
-        told = [(item, verifier.words.verdict_of(item, levels)) for item in own.items]
+        if table is not None:
+            told = list(zip(own.items, verifier.fit_told(table, certificate)))
+        else:
+            levels = json.loads(certificate).get("levels", ())
+            told = [(item, verifier.words.verdict_of(item, levels)) for item in own.items]
     return [(item, f"{said} {OF_PRICES}" if own_money and item["item"] in ADD_MONEY else said) for item, said in told]

@@ -11,6 +11,7 @@ from .answers import ADD_MONEY, OF_PRICES, Answers, Certificate, Checked, Patch,
 from .answers import walk_of, welfares
 from .catalogue import DRAWS, PER, SEED, span
 from .faults import BadData, Failed, NoFile, Refused
+from .goodness import Fit, fit_of
 from .measures import CostMinimisation, MenuVerdict, MoneyPump, Power, Trial
 from .tables import DEFAULT, OWN_MONEY, Choices, Forms, MenuChoices, Sheet, Table, Technology, beside, forms_of, table, takes_places
 from .verifier import Findings, reports
@@ -73,7 +74,7 @@ def pairs(p: Any, q: Any = None, *, levels: Any = None, decimals: Any = None, nu
         Varian, H. R. (1982). The Nonparametric Approach to Demand Analysis. Econometrica 50, 945-973.
     """
     own = table(p, q, decimals=decimals, numbers=numbers, levels=levels)
-    told = program.answer(["pairs", TABLE], {TABLE: own.csv()}, exe, _explains(own))
+    told = program.answer(["pairs", TABLE], {TABLE: own.csv()}, exe, explains(own))
     with reading(told.encode()):
         pair = reports.read_pairs(told)
         if pair is None:
@@ -96,7 +97,38 @@ def pump(p: Any, q: Any = None, *, levels: Any = None, decimals: Any = None, num
     own = table(p, q, decimals=decimals, numbers=numbers, levels=levels)
     if own.own_money:
         raise BadData(f"the money pump: {OWN_MONEY}")
-    return MoneyPump(own, program.answer(["pump", TABLE], {TABLE: own.csv()}, exe, _explains(own)).encode())
+    return MoneyPump(own, program.answer(["pump", TABLE], {TABLE: own.csv()}, exe, explains(own)).encode())
+
+
+@takes_places
+def fit(p: Any, q: Any = None, *, levels: Any = None, decimals: Any = None, numbers: Any = "shortest", exe: Any = None) -> Fit:
+    """Computes the indices of goodness of fit of a table: HM, Varian's index, the minimum cost index and more. Returns a Fit.
+
+    Each index is exact or has two bounds, and its evidence is in the certificate. `check` and `verify` look at it. A table with levels is
+    rejected. Intercepts of budget lines give each row its own unit of money. Three indices that add money are then None: the
+    minimum cost index, the money pump and the quasilinear level. Data on several units are for `panel_fit`.
+
+    This is a command of `rp-wide`. A table of 50 observations takes less than a second, and one of 512 observations can take two minutes. A
+    terminal or a notebook says how long it has worked, and Ctrl-C ends it without a result.
+
+    The indices are defined in docs/reference/rp-fit.md.
+
+    References:
+        Dean, M. and Martin, D. (2016). Measuring Rationality with the Minimum Cost of Revealed Preference Violations. Review of Economics
+        and Statistics 98, 524-534.
+        Famulari, M. (1995). A Household-Based, Nonparametric Test of Demand Theory. Review of Economics and Statistics 77, 372-382.
+        Halevy, Y., Persitz, D. and Zrill, L. (2018). Parametric Recoverability of Preferences. Journal of Political Economy 126,
+        1558-1593.
+        Heufer, J. and Hjertstrand, P. (2019). Homothetic Efficiency: Theory and Applications. Journal of Business and Economic Statistics
+        37, 235-247.
+        Houtman, M. and Maks, J. A. H. (1985). Determining All Maximal Data Subsets Consistent with Revealed Preference. Kwantitatieve
+        Methoden 19, 89-104.
+        Swofford, J. L. and Whitney, G. A. (1987). Nonparametric Tests of Utility Maximization and Weak Separability for Consumption, Leisure
+        and Money. Review of Economics and Statistics 69, 458-464.
+        Varian, H. R. (1990). Goodness-of-Fit in Optimizing Models. Journal of Econometrics 46, 125-140.
+    """
+    own = table(p, q, decimals=decimals, numbers=numbers, levels=levels)
+    return fit_of(own, exe, explains(own))
 
 
 @takes_places
@@ -115,7 +147,7 @@ def power(
     """
     own = table(p, q, decimals=decimals, numbers=numbers, levels=levels)
     seed, draws = program.whole(seed, "seed", *SEED), program.whole(draws, "draws", *DRAWS)
-    out = program.answer(["power", TABLE, str(seed), str(draws)], {TABLE: own.csv()}, exe, _explains(own))
+    out = program.answer(["power", TABLE, str(seed), str(draws)], {TABLE: own.csv()}, exe, explains(own))
     return Power(own, out.encode(), seed, draws)
 
 
@@ -186,7 +218,7 @@ def utility(p: Any, q: Any = None, bundles: Any = None, *, levels: Any = None, d
     """
     own = table(p, q, decimals=decimals, numbers=numbers, levels=levels)
     sheet = _new(own, bundles, "q_", forms=forms_of(decimals, numbers))
-    return utilities(own, sheet, program.answer(["utility", TABLE, NEW], {TABLE: own.csv(), NEW: sheet.csv()}, exe, _explains(own, sheet)))
+    return utilities(own, sheet, program.answer(["utility", TABLE, NEW], {TABLE: own.csv(), NEW: sheet.csv()}, exe, explains(own, sheet)))
 
 
 # ---- firms, and choices of many people
@@ -207,7 +239,7 @@ def cost(technology: Any, asked: Any = None, *, decimals: Any = None, numbers: A
     first = dict(zip(own.names, own.rows[0])) if own.rows else {}
     sheet = own.asked({name: first.get(name) for name in own.names if name.startswith("w_") or name == "y"} if asked is None else asked, decimals, numbers)
     files = {TECHNOLOGY: own.csv(), ASKED: sheet.csv()}
-    given = program.given(["cost", TECHNOLOGY, ASKED], files, exe, _explains(own, sheet), wide)
+    given = program.given(["cost", TECHNOLOGY, ASKED], files, exe, explains(own, sheet), wide)
     return CostMinimisation(own, sheet, given.out.encode(), asked is not None, _stated(given), given.hint)
 
 
@@ -271,7 +303,7 @@ def menus(choices: Any, per: Any = None, *, exe: Any = None) -> MenuVerdict:
         Falmagne, J.-C. (1978). A Representation Theorem for Finite Random Scale Systems. Journal of Mathematical Psychology 18, 52-72.
     """
     own = choices if isinstance(choices, MenuChoices) and per is None else MenuChoices(choices, per)
-    out = program.answer(["menus", MENUS, *_units(own.per)], {MENUS: own.csv()}, exe, _explains(own))
+    out = program.answer(["menus", MENUS, *_units(own.per)], {MENUS: own.csv()}, exe, explains(own))
     return MenuVerdict(own, out.encode())
 
 
@@ -283,7 +315,8 @@ def check(data: Any, certificate: Any, *, per: Any = None, exe: Any = None, wide
 
     `data` is a table, choices, or the verdict on one. Or it has prices and quantities in a tuple, or a CSV file, by its name, text or bytes.
     For choices, give budgets and choices in a tuple. `certificate` is a Certificate, its JSON as text, bytes or a value, or the name of its
-    file. Choices with too many types for `rp` are checked by `rp-wide`, unless `wide=False`.
+    file. Choices with too many types for `rp` are checked by `rp-wide`, unless `wide=False`. A certificate on goodness of fit is checked by
+    `rp-wide`.
 
     References:
         Afriat, S. N. (1967). The Construction of Utility Functions from Expenditure Data. International Economic Review 8, 67-77.
@@ -294,13 +327,27 @@ def check(data: Any, certificate: Any, *, per: Any = None, exe: Any = None, wide
     if TABLE not in files and BUDGETS not in files:
         raise BadData("the program checks certificates alone; verify looks at reports of pump, menus and cost")
     files[CERTIFICATE] = claimed
+    if TABLE in files and verifier.is_fit(claimed):
+        return _check_fit(data, files, explain, exe)
     words = ["check", TABLE] if TABLE in files else ["checkrandom", BUDGETS, CHOICES]
     ran, is_wide = program.of_choices([*words, CERTIFICATE, *_units(per)], files, exe, wide)
     if ran.status in (0, 1):
-        return Checked(ran.out, claimed, is_wide, TABLE in files and bool(getattr(_table_of(data), "own_money", False)))
+        return Checked(ran.out, claimed, is_wide, TABLE in files and _has_own_money(data))
     if ran.refusal is None:
         raise Failed(ran.status, ran.said)
     raise explain(*ran.refusal)
+
+
+def _check_fit(data: Any, files: dict[str, bytes], explain: Explains, exe: Any) -> Checked:
+    """Checks a certificate on goodness of fit by `rp-wide checkfit`."""
+    ran = program.call_fit(["checkfit", TABLE, CERTIFICATE], files, exe)
+    if ran.status not in (0, 1):
+        program.output(ran, explain)
+    return Checked(ran.out, files[CERTIFICATE], True, _has_own_money(data), files[TABLE])
+
+
+def _has_own_money(data: Any) -> bool:
+    return bool(getattr(_table_of(data), "own_money", False))
 
 
 def verify(data: Any, certificate: Any = None, *, per: Any = None) -> Findings:
@@ -323,7 +370,7 @@ def verify(data: Any, certificate: Any = None, *, per: Any = None) -> Findings:
         return verifier.verify_menus(files.get(MENUS, files.get(TABLE, b"")), claimed, per)
     if TABLE in files:
         found = _verifier_of(claimed)(files[TABLE], claimed)
-        return told_of_prices(found) if getattr(_table_of(data), "own_money", False) else found
+        return told_of_prices(found) if _has_own_money(data) else found
     if BUDGETS in files:
         return verifier.verify_choices(files[BUDGETS], files[CHOICES], claimed, per)
     raise BadData("a certificate is on a table or on choices from budgets; on menus and on firms there are reports")
@@ -365,7 +412,7 @@ def _as_firm(files: dict[str, bytes]) -> dict[str, bytes]:
 def _certificate(words: list[str], sheets: list[Sheet], exe: Any, wide: bool) -> Certificate:
     """Returns the certificate that words over a table give, and over what is asked beside it."""
     files = {name: own.csv() for name, own in zip((TABLE, NEW), sheets)}
-    given = program.given(words, files, exe, _explains(*sheets), wide)
+    given = program.given(words, files, exe, explains(*sheets), wide)
     return Certificate(given.out.encode(), _stated(given), given.hint)
 
 
@@ -383,7 +430,7 @@ def _units(per: Any) -> list[str]:
     return [] if per is None else ["--per", str(program.whole(per, "per", *PER))]
 
 
-def _explains(*sheets: Sheet) -> Explains:
+def explains(*sheets: Sheet) -> Explains:
     """Returns a function that makes the refusal of one of these files."""
     by_file = {sheet.file: sheet for sheet in sheets}
 
@@ -400,7 +447,7 @@ def refusal(fault: str, file: str | None, places: dict[str, int], label: Any = N
 
 
 def _explains_choices(own: Choices) -> Explains:
-    explain = _explains(own.budgets, own.choices)
+    explain = explains(own.budgets, own.choices)
 
     def with_budget(file: str | None, fault: str, places: dict[str, int]) -> Exception:
         refused = explain(file or "choices", fault, places)
@@ -415,7 +462,7 @@ def _explains_choices(own: Choices) -> Explains:
 def _files(data: Any, per: Any) -> tuple[dict[str, bytes], Any, Explains]:
     """Returns the files of some data with their units, and what explains a refusal of one."""
     for attribute in ("table", "choices"):
-        if isinstance(data, (Verdict, RandomVerdict, MoneyPump, MenuVerdict, Answers)) and hasattr(data, attribute):
+        if isinstance(data, (Verdict, RandomVerdict, MoneyPump, MenuVerdict, Answers, Fit)) and hasattr(data, attribute):
             data = getattr(data, attribute)
             break
     if isinstance(data, CostMinimisation):
@@ -424,19 +471,19 @@ def _files(data: Any, per: Any) -> tuple[dict[str, bytes], Any, Explains]:
         files = {BUDGETS: data.budgets.csv(), CHOICES: data.choices.csv()}
         return files, data.per if per is None else per, _explains_choices(data)
     if isinstance(data, MenuChoices):
-        return {MENUS: data.csv()}, data.per if per is None else per, _explains(data)
+        return {MENUS: data.csv()}, data.per if per is None else per, explains(data)
     if is_file(data):
-        return {TABLE: file_bytes(data)}, per, _explains()
+        return {TABLE: file_bytes(data)}, per, explains()
     if isinstance(data, tuple) and len(data) == 2:
         if all(map(is_file, data)):
-            return {BUDGETS: file_bytes(data[0]), CHOICES: file_bytes(data[1])}, per, _explains()
+            return {BUDGETS: file_bytes(data[0]), CHOICES: file_bytes(data[1])}, per, explains()
         if isinstance(data[0], Technology):
             sheet = data[1] if isinstance(data[1], Sheet) else data[0].asked(data[1])
-            return {TECHNOLOGY: data[0].csv(), ASKED: sheet.csv()}, per, _explains(*data)
+            return {TECHNOLOGY: data[0].csv(), ASKED: sheet.csv()}, per, explains(*data)
         data = table(*data)
     if not isinstance(data, Table):
         data = table(data)
-    return {TABLE: data.csv()}, per, _explains(data)
+    return {TABLE: data.csv()}, per, explains(data)
 
 
 def is_file(data: Any) -> bool:
@@ -460,7 +507,7 @@ def certificate_bytes(certificate: Any) -> bytes:
         return certificate.data
     if isinstance(certificate, (MoneyPump, MenuVerdict, CostMinimisation)):
         return certificate.report
-    if isinstance(certificate, (Verdict, RandomVerdict, Answers)):
+    if isinstance(certificate, (Verdict, RandomVerdict, Answers, Fit)):
         if certificate.certificate is None:
             raise BadData("these utilities have no certificate: they are the Afriat numbers' of analyse, which has one")
         return certificate.certificate.data

@@ -66,14 +66,14 @@ class Library:
         """Returns the same of the wider call, which the library has to have."""
         return self._called(self.wider, words, files)
 
-    def run_wide_apart(self, program: str, words: Sequence[str], files: Mapping[str, bytes]) -> tuple[int, bytes, bytes]:
+    def run_wide_apart(self, program: str, words: Sequence[str], files: Mapping[str, bytes], running: worker.Running | None = None) -> tuple[int, bytes, bytes]:
         """Returns the same of the wider call, which may take long, by a process of its own: Ctrl-C ends that, and cannot end a call in
         this one. Where no process of Python can be started, the call is made here."""
         if not sys.executable:
             return self.run_wide(program, words, files)
         package = os.path.dirname(os.path.dirname(os.path.abspath(__file__)))
         given = pickle.dumps((self.path, list(words), dict(files)))
-        status, out, said = worker.waited([sys.executable, "-c", APART, package], "rp-wide", given=given)
+        status, out, said = worker.waited([sys.executable, "-c", APART, package], "rp-wide", given=given, running=running)
         if status != 0:
             raise Failed(status, said.decode("utf-8", "replace").strip().rpartition("\n")[2])
         found: tuple[int, bytes, bytes] = pickle.loads(out)

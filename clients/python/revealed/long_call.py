@@ -92,9 +92,9 @@ def answered(out: str, households: Sequence[str], unnamed: int, asked: Asked) ->
     return rows
 
 
-def in_turn(jobs: Iterable[Any], answer: Callable[[Any], Any], workers: int) -> Iterator[tuple[Any, Any]]:
+def in_turn(jobs: Iterable[Any], answer: Callable[[Any], Any], workers: int, ends: Callable[[], None] = lambda: None) -> Iterator[tuple[Any, Any]]:
     """Yields each job with its answer, in their order, by so many threads, which begin no more than a few jobs ahead. A call of the
-    library, or of a program, leaves the other threads alone."""
+    library, or of a program, leaves the other threads alone. Where no more is wanted, `ends` ends what still works."""
     if workers == 1:
         for job in jobs:
             yield job, answer(job)
@@ -113,4 +113,5 @@ def in_turn(jobs: Iterable[Any], answer: Callable[[Any], Any], workers: int) -> 
     finally:
         for _, future in waiting:
             future.cancel()
+        ends()
         pool.shutdown()

@@ -14,13 +14,17 @@ from typing import TYPE_CHECKING, Any, Callable, Iterable, Sequence
 from . import exact
 from .answers import Verdict
 from .catalogue import units_by
-from .commands import analyse
+from .commands import analyse, explains
 from .faults import BadData
+from .goodness import Fit, fit_of
 from .long_call import BLANKS, COLUMNS, OF_ID, line_of
 from .offered import Offered
+from .program import switch
 from .tables import OWN_MONEY, Table
+from .worker import Running
 
 if TYPE_CHECKING:
+    from .fit_panels import FitPanel
     from .panels import Household
 
 # So many rows are shown of a panel.
@@ -56,7 +60,7 @@ class Row:
     `power` are Fractions. Names that end in `_floor` have six decimal places, rounded down.
 
     `fault` is None, or the error, with the `record`, from 1, and the `column` of the frame. `refusal` is the error in words. `verdict` is
-    the Verdict with its certificate; it is computed when you use it.
+    the Verdict with its certificate, and `fit` the Fit; each is computed when you use it.
     """
 
     def __init__(self, key: Any, texts: Sequence[str], own: Household, refusal: Callable[[], Exception] | None = None) -> None:
@@ -65,6 +69,7 @@ class Row:
         self._refusal = refusal
         self._own = own
         self._verdict: Verdict | None = None
+        self._fit: Fit | None = None
         it = self.texts
         if self.own_money:
             # The call was given prices, and says what is so of these. Of the data this test is not told: see `message`.
@@ -102,6 +107,18 @@ class Row:
             own = self._own.panel
             self._verdict = analyse(self.table, exe=own.exe, wide=own.asked.wide)
         return self._verdict
+
+    @property
+    def fit(self) -> Fit | None:
+        """The indices of goodness of fit, by a call for this unit alone; None if the unit has an error."""
+        return self._fit if self._fit is not None or self.fault is not None else self.fitted()
+
+    def fitted(self, running: Running | None = None) -> Fit:
+        """Returns the indices of a unit without an error, by one call."""
+        if self._fit is None:
+            own = self.table
+            self._fit = fit_of(own, self._own.panel.exe, explains(own), running)
+        return self._fit
 
     @property
     def status(self) -> int:
@@ -221,6 +238,12 @@ class Panel(Units):
         part.numbers, part.offered = self.numbers, self.offered
         return part
 
+    def fits(self, workers: Any = None, *, progress: bool = True) -> FitPanel:
+        """Returns the indices of goodness of fit of each unit, as `panel_fit` does. They are computed once."""
+        from .fit_panels import fits_of
+
+        return fits_of(self, workers, progress)
+
     def said(self) -> list[str]:
         """Returns what is said of the panel as a whole, in a few lines."""
         own = [row for row in self if row.fault is None]
@@ -303,27 +326,40 @@ class Panel(Units):
                 frame[name] = frame[name].fillna("").astype(str)
         frame.to_stata(path, write_index=False)
 
-    def plot(self, ax: Any = None, **more: Any) -> Any:
-        """Draws the distribution of the efficiency index, beside that of random behaviour on the same budgets; returns the axes."""
+    def plot(self, ax: Any = None, *, fit: Any = False, **more: Any) -> Any:
+        """Draws the distribution of the CCEI, beside that of random behaviour on the same budgets; returns the axes.
+
+        `fit=True` draws the distributions of HM, AVI and MCI too, of the units alone, and returns four axes. If bounds do not meet, both are
+        drawn. `ax` then has four axes.
+        """
         from . import pictures
 
-        return pictures.of_panel(self, ax, **more)
+        return pictures.of_panel(self, ax, **more) if fit is False else pictures.of_fits(self._fitted(fit), ax, **more)
 
-    def text(self, **more: Any) -> str:
+    def _fitted(self, fit: Any) -> FitPanel | None:
+        """Returns the indices that the argument `fit` asks for."""
+        if not isinstance(fit, list):
+            return self.fits() if switch(fit, "fit") else None
+        return fit  # type: ignore[return-value]
+
+    def text(self, *, fit: Any = False, **more: Any) -> str:
         """Returns a table of the panel for a paper, as plain text: N, mean, SD and quartiles of the CCEI, and the shares at `thresholds`.
 
         `thresholds` are texts such as ("0.95", "0.90"). `units="subjects"` says what the units are called. Numbers are rounded to `digits`
         decimal places, 3 by default, half to even. Only an index of 1 prints as 1, and only 0 prints as 0.
+
+        `fit=True` adds indices of goodness of fit: HM (Houtman and Maks), AVI (Varian, the mean of 1 - e), MCI (minimum cost index) and MPI.
+        MPI is the maximum money pump index. If bounds do not meet at these decimal places, both are printed.
         """
         from . import papers
 
-        return papers.text(self, **more)
+        return papers.text(self, fits=self._fitted(fit), **more)
 
-    def latex(self, **more: Any) -> str:
+    def latex(self, *, fit: Any = False, **more: Any) -> str:
         """Returns the table of `text` as LaTeX (with booktabs)."""
         from . import papers
 
-        return papers.latex(self, **more)
+        return papers.latex(self, fits=self._fitted(fit), **more)
 
 
 NO_PANDAS = "a frame needs the package pandas, which is not here: pip install pandas; .records() has the same without it, and .text() and .latex() too"

@@ -422,12 +422,16 @@ def processors() -> int:
 
 
 def bar_of(rows: Iterator[Any], whole: LongFrame, progress: bool) -> Iterable[Any]:
-    """Returns the rows, while a bar of the package tqdm says how far they are, where that is there and asked."""
+    return bar_of_units(rows, len(whole.households) + len(whole.unnamed), progress)
+
+
+def bar_of_units(rows: Iterator[Any], count: int, progress: bool) -> Iterable[Any]:
+    """Returns so many rows, while a bar of the package tqdm says how far they are, where that is there and asked."""
     if not progress:
         return rows
     try:
         from tqdm import tqdm
     except ImportError:
         return rows
-    bar: Iterable[Any] = tqdm(rows, total=len(whole.households) + len(whole.unnamed), unit="row")
+    bar: Iterable[Any] = tqdm(rows, total=count, unit="row")
     return bar

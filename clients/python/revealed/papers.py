@@ -3,13 +3,14 @@
 from __future__ import annotations
 
 from fractions import Fraction
-from math import floor
+from math import ceil, floor, sqrt
 from statistics import stdev
 from typing import Any, Callable, Iterable, Sequence
 
 from . import exact
 from .catalogue import THRESHOLDS
 from .faults import BadData
+from .goodness import between
 from .long_call import OF_ID
 from .program import whole
 from .tables import OWN_MONEY
@@ -76,7 +77,55 @@ def threshold(level: Any) -> tuple[str, Fraction]:
     return text, number
 
 
-def lines_of(panel: Any, units: str | None = None, thresholds: Iterable[Any] = THRESHOLDS, digits: Any = 3) -> list[tuple[str, str]]:
+def distribution_of_bounds(name: str, lows: Sequence[Fraction], highs: Sequence[Fraction], digits: int) -> list[tuple[str, str]]:
+    """Returns the lines on an index of which each unit has two bounds. Where they differ as they are told, both are told."""
+    if not lows:
+        return [(name, "none")]
+    told = lambda low, high: between(low, high, digits)
+    parts = [("minimum", 0), ("first quartile", 1), ("median", 2), ("third quartile", 3), ("maximum", 4)]
+    quantiles = [(f"{name}, {what}", told(*(quantile(it, Fraction(part, 4)) for it in (lows, highs)))) for what, part in parts]
+    means = told(*(sum(it, Fraction(0)) / len(it) for it in (lows, highs)))
+    return [(f"{name}, mean", means), (f"{name}, standard deviation", deviation_of_bounds(lows, highs, digits)), *quantiles]
+
+
+def deviation_of_bounds(lows: Sequence[Fraction], highs: Sequence[Fraction], digits: int) -> str:
+    """Returns the standard deviation of a sample that lies between two others. It differs from that of the lower one by at most the norm of
+    the differences, over the root of one less than their number."""
+    if len(lows) < 2:
+        return "none"
+    own = stdev(map(float, lows))
+    apart = sqrt(sum(float(high - low) ** 2 for low, high in zip(lows, highs)) / (len(lows) - 1))
+    least, most = max(own - apart, 0), own + apart
+    if f"{least:.{digits}f}" == f"{most:.{digits}f}":
+        return f"{own:.{digits}f}"
+    scale = 10**digits
+    return f"{floor(least * scale) / scale:.{digits}f} to {ceil(most * scale) / scale:.{digits}f}"
+
+
+# The indices of goodness of fit of a table, under the names that papers give them: what of a Fit are the bounds.
+OF_FIT = [
+    ("HM (Houtman-Maks), share kept", "hm_low", "hm_high"),
+    ("AVI (Varian), mean of 1 - e", "levels_low", "levels_high"),
+    ("MCI (minimum cost index)", "steps_low", "steps_high"),
+    ("MPI (money pump), maximum", "pump", "pump"),
+]
+
+
+def lines_of_fits(fits: Any, digits: int) -> list[tuple[str, str]]:
+    """Returns the lines on the indices of goodness of fit. One that a unit has not, as where each row has money of its own, is absent."""
+    own = [it.fit for it in fits if it.fit is not None]
+    lines = [("all observations kept", share(sum(it.kept == it.observations for it in own), len(own)))]
+    for name, low, high in OF_FIT:
+        pairs = [(getattr(it, low), getattr(it, high)) for it in own]
+        if all(it[0] is not None for it in pairs):
+            lines += distribution_of_bounds(name, [it[0] for it in pairs], [it[1] for it in pairs], digits)
+    for name, flag in (("HM", "kept_exact"), ("AVI", "levels_exact"), ("MCI", "steps_exact")):
+        met = [getattr(it, flag) for it in own if getattr(it, flag) is not None]
+        lines += [(f"{name}, bounds meet", share(sum(met), len(met)))] if not all(met) else []
+    return lines
+
+
+def lines_of(panel: Any, units: str | None = None, thresholds: Iterable[Any] = THRESHOLDS, digits: Any = 3, fits: Any = None) -> list[tuple[str, str]]:
     """Returns the lines of the table: what is told, and its value. Units without verdicts are counted and left out of the rest; what is
     withheld counts, as what may hold or not."""
     digits = whole(digits, "digits", 1, 9)
@@ -94,31 +143,34 @@ def lines_of(panel: Any, units: str | None = None, thresholds: Iterable[Any] = T
     lines += distribution("CCEI", index, digits)
     for text, level in map(threshold, thresholds):
         lines.append((f"CCEI of at least {text}", share(sum(value >= level for value in index), len(index))))
-    if "pump" in panel.asked:
+    if fits is not None:
+        lines += lines_of_fits(fits, digits)
+    elif "pump" in panel.asked:
         lines += distribution("maximum money pump", [row.pump for row in rows], digits)
     if "power" in panel.asked:
         lines += distribution("power", [row.power for row in rows], digits)
     return lines
 
 
-def notes_of(panel: Any) -> list[str]:
+def notes_of(panel: Any, fits: Any = None) -> list[str]:
     """Returns what stands below the table: why something has no line there, and how numbers were taken."""
     own_money = any(row.own_money for row in panel if row.fault is None)
-    return [*([ABSENT] if own_money else []), *([str(panel.offered)] if panel.offered else []), *([f"numbers: {panel.numbers}"] if panel.numbers else [])]
+    absent = ABSENT if fits is None else ABSENT.replace(" and money pump", ", MPI and MCI")
+    return [*([absent] if own_money else []), *([str(panel.offered)] if panel.offered else []), *([f"numbers: {panel.numbers}"] if panel.numbers else [])]
 
 
 ABSENT = f"quasilinear and money pump are absent: {OWN_MONEY}"
 
 
-def text(panel: Any, units: str | None = None, thresholds: Iterable[Any] = THRESHOLDS, digits: Any = 3) -> str:
-    lines = lines_of(panel, units, thresholds, digits)
+def text(panel: Any, units: str | None = None, thresholds: Iterable[Any] = THRESHOLDS, digits: Any = 3, fits: Any = None) -> str:
+    lines = lines_of(panel, units, thresholds, digits, fits)
     width = max(len(name) for name, _ in lines)
-    return "\n".join([*(f"{name.ljust(width)}  {value}" for name, value in lines), *notes_of(panel)]) + "\n"
+    return "\n".join([*(f"{name.ljust(width)}  {value}" for name, value in lines), *notes_of(panel, fits)]) + "\n"
 
 
-def latex(panel: Any, units: str | None = None, thresholds: Iterable[Any] = THRESHOLDS, digits: Any = 3) -> str:
-    told = [f"{escaped(name)} & {escaped(value)} \\\\" for name, value in lines_of(panel, units, thresholds, digits)]
-    notes = [f"\\multicolumn{{2}}{{l}}{{\\footnotesize {escaped(it)}}} \\\\" for it in notes_of(panel)]
+def latex(panel: Any, units: str | None = None, thresholds: Iterable[Any] = THRESHOLDS, digits: Any = 3, fits: Any = None) -> str:
+    told = [f"{escaped(name)} & {escaped(value)} \\\\" for name, value in lines_of(panel, units, thresholds, digits, fits)]
+    notes = [f"\\multicolumn{{2}}{{l}}{{\\footnotesize {escaped(it)}}} \\\\" for it in notes_of(panel, fits)]
     ruled = ["\\midrule", *notes] if notes else []
     return "\n".join(["\\begin{tabular}{lr}", "\\toprule", *told[:2], "\\midrule", *told[2:], *ruled, "\\bottomrule", "\\end{tabular}"]) + "\n"
 

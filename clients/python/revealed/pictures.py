@@ -13,6 +13,7 @@ from typing import Any, Sequence
 from . import draws, papers
 from .answers import Verdict
 from .faults import BadData
+from .goodness import NEAR
 
 PLAIN, LIGHT, STRONG = "#3b6ea5", "#b9c4d0", "#c0392b"
 # What is behind a label, so that no budget line crosses it; points and arrows are drawn over it.
@@ -119,6 +120,64 @@ def of_panel(panel: Any, ax: Any = None, *, random: int = 1000, seed: Any = 1, b
     ax.set_ylabel("share")
     ax.legend(frameon=False, fontsize=8, loc="upper left")
     return ax
+
+
+# The indices of goodness of fit that are drawn: their names, what of a Fit are the bounds, and which value is that of rational choices.
+OF_FIT = [
+    ("HM, share of kept observations", "hm_low", "hm_high", 1),
+    ("AVI, mean of 1 - e", "levels_low", "levels_high", 0),
+    ("MCI, share of expenditure", "steps_low", "steps_high", 0),
+]
+
+
+def of_fits(fits: Any, ax: Any = None, *, bins: int = 20, **more: Any) -> Any:
+    """Draws the distribution of the CCEI as `of_panel` does, and those of HM, AVI and MCI over the units. An index of exactly 1, or of
+    exactly 0, that of rational choices, has a bar of its own. If bounds do not meet, both are drawn."""
+    four = list(ax.flat if hasattr(ax, "flat") else ax) if ax is not None else list(grid_of_axes().flat)
+    if len(four) != 4:
+        raise BadData(f"the picture with fit=True has four axes, and these are {len(four)}")
+    of_panel(fits.panel, four[0], bins=bins, **more)
+    own = [it.fit for it in fits if it.fit is not None]
+    for axes, (name, low, high, ideal) in zip(four[1:], OF_FIT):
+        pairs = [(getattr(it, low), getattr(it, high)) for it in own]
+        axes.set_xlabel(name)
+        axes.set_ylabel("share")
+        if any(it[0] is None for it in pairs):
+            axes.text(0.5, 0.5, "not defined: each row\nhas its own unit of money", ha="center", va="center", transform=axes.transAxes, fontsize=8)
+            continue
+        bounds_drawn(axes, pairs, ideal, bins)
+    return four
+
+
+def bounds_drawn(axes: Any, pairs: Sequence[Any], ideal: int, bins: int) -> None:
+    """Draws how many units have which bounds."""
+    meet = all(high - low <= NEAR for low, high in pairs)
+    sides = [("", 0)] if meet else [("lower bound", 0), ("upper bound", 1)]
+    # How far an index is from that of rational choices.
+    most = max([0.05, *(float(abs(it - ideal)) for pair in pairs for it in pair)])
+    width = most / bins
+    for number, (name, side) in enumerate(sides):
+        far = [0 if pair[side] == ideal else 1 + min(bins - 1, int(float(abs(pair[side] - ideal)) / width)) for pair in pairs]
+        starts = [ideal + (1 if ideal == 0 else -1) * width * (place if place == 0 else place + SPIKE) for place in range(bins + 1)]
+        shift = 0.9 * width / len(sides)
+        heights = [far.count(place) / len(far) for place in range(bins + 1)]
+        axes.bar([it - 0.45 * width + number * shift for it in starts], heights, width=shift, align="edge", color=(PLAIN, LIGHT)[number], label=name)
+    sign = 1 if ideal == 0 else -1
+    ticks = [most * part / 4 for part in range(1, 5)]
+    axes.set_xticks(
+        [ideal, *(ideal + sign * (it + width * (SPIKE + 0.5)) for it in ticks)], [f"exactly {ideal}", *(f"{ideal + sign * it:.2g}" for it in ticks)]
+    )
+    if not meet:
+        axes.legend(frameon=False, fontsize=8)
+
+
+def grid_of_axes() -> Any:
+    """Returns four new axes, in two rows."""
+    try:
+        from matplotlib import pyplot
+    except ImportError as wrong:
+        raise BadData("a picture needs the package matplotlib: pip install matplotlib") from wrong
+    return pyplot.subplots(2, 2, figsize=(11, 8), layout="constrained")[1]
 
 
 def shares_in(own: Sequence[Any], low: float, width: float, bins: int) -> list[float]:

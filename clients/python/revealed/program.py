@@ -23,6 +23,8 @@ BUILT = os.path.join(os.pardir, os.pardir, "rp_wide", "out", "rp_wide")
 PANEL_VARIABLE = "RP_PANEL"
 PANEL_NAME = "rp-panel.exe" if sys.platform == "win32" else "rp-panel"
 PANEL_BUILT = os.path.join(os.pardir, os.pardir, "rp_panel_program", "out", "rp_panel_program")
+# The status of a command that a program does not know.
+UNKNOWN = 2
 # A name of a file that a program is given stands in a refusal as `rp: table.csv: BadNumber record 2 column 5`.
 REFUSAL = re.compile(r"rp(?:-panel)?: (?:([\w-]+)\.(?:csv|json): )?([A-Z]\w*(?: (?:record|column|budget|menu|item|name) \d+)*)")
 # What a field has to be quoted for.
@@ -182,9 +184,8 @@ def call(words: Sequence[str], files: Mapping[str, bytes], exe: Any = None) -> R
     words go to the program as they are: no shell reads them.
     """
     by_library, program = way(exe)
-    run: Runs = by_library if by_library is not None else worker.run
     try:
-        return ran_of(*run(program, words, files))
+        return ran_of(*(by_library or worker.run)(program, words, files))
     except OSError as wrong:
         raise NoProgram(f"{program} cannot be run: {wrong}") from wrong
 
@@ -230,6 +231,34 @@ def call_wide(words: Sequence[str], files: Mapping[str, bytes], exe: Any = None,
         return ran_of(*(run or worker.run)(path, words, files))
     except OSError as wrong:
         raise NoProgram(f"{path} cannot be run: {wrong}") from wrong
+
+
+# A call of `fit` on a table of more observations has a process of its own, which can be interrupted.
+SHORT = 64
+NO_FIT = "has no fit: take rp-wide of a release after 0.17.0, or name one by"
+
+
+def call_fit(words: Sequence[str], files: Mapping[str, bytes], exe: Any = None, count: int = 0, running: worker.Running | None = None) -> Ran:
+    """Returns how `fit` or `checkfit` ended on so many observations. Only the wider edition has them; raises NoProgram where it is not there."""
+    found = wide_way(exe)
+    if found is None:
+        raise NoProgram(f"fit is a command of rp-wide, {wider.ABSENT.partition(', ')[2]}")
+    run, path = found
+    if run is not None:
+        status, out, told = run(path, words, files) if count <= SHORT else library.known(path).run_wide_apart(path, words, files, running)
+        if status != UNKNOWN:
+            return ran_of(status, out, told)
+        own = wide_beside(None)
+        if own is None:
+            raise NoProgram(f"the library {path} {NO_FIT} {WIDE_VARIABLE}")
+        path = own
+    try:
+        status, out, told = worker.run(path, words, files, running)
+    except OSError as wrong:
+        raise NoProgram(f"{path} cannot be run: {wrong}") from wrong
+    if status == UNKNOWN:
+        raise NoProgram(f"{path} {NO_FIT} {WIDE_VARIABLE}")
+    return ran_of(status, out, told)
 
 
 def ended_of(ran: Ran) -> wider.Ended:

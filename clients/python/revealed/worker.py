@@ -14,23 +14,50 @@ from typing import Mapping, Sequence
 TELLS = 5.0
 
 
-def run(program: str, words: Sequence[str], files: Mapping[str, bytes]) -> tuple[int, bytes, bytes]:
+class Running:
+    """The processes of several threads that work for one call: `end` ends all of them, and each that starts later."""
+
+    def __init__(self) -> None:
+        self.lock = threading.Lock()
+        self.processes: set[subprocess.Popen[bytes]] = set()
+        self.is_ended = False
+
+    def add(self, process: subprocess.Popen[bytes]) -> None:
+        with self.lock:
+            self.processes.add(process)
+            if self.is_ended:
+                process.kill()
+
+    def discard(self, process: subprocess.Popen[bytes]) -> None:
+        with self.lock:
+            self.processes.discard(process)
+
+    def end(self) -> None:
+        with self.lock:
+            self.is_ended = True
+            for process in self.processes:
+                process.kill()
+
+
+def run(program: str, words: Sequence[str], files: Mapping[str, bytes], running: Running | None = None) -> tuple[int, bytes, bytes]:
     """Returns the status of a call, and what it wrote to standard output and standard error. The folder is its own."""
     with tempfile.TemporaryDirectory(prefix="revealed-") as folder:
-        return run_in(folder, program, words, files)
+        return run_in(folder, program, words, files, running)
 
 
-def run_in(folder: str, program: str, words: Sequence[str], files: Mapping[str, bytes]) -> tuple[int, bytes, bytes]:
+def run_in(folder: str, program: str, words: Sequence[str], files: Mapping[str, bytes], running: Running | None = None) -> tuple[int, bytes, bytes]:
     for name, data in files.items():
         with open(os.path.join(folder, name), "wb") as it:
             it.write(data)
-    return waited([program, *words], os.path.basename(program), folder)
+    return waited([program, *words], os.path.basename(program), folder, running=running)
 
 
-def waited(words: Sequence[str], name: str, folder: str | None = None, given: bytes = b"") -> tuple[int, bytes, bytes]:
+def waited(words: Sequence[str], name: str, folder: str | None = None, given: bytes = b"", running: Running | None = None) -> tuple[int, bytes, bytes]:
     """Returns how a process ended that gets these bytes. If the wait for it is interrupted, the process is ended, and that is said."""
     process = subprocess.Popen(words, cwd=folder, stdin=subprocess.PIPE, stdout=subprocess.PIPE, stderr=subprocess.PIPE)
     began, told, rest = time.monotonic(), False, given or None
+    running = running or Running()
+    running.add(process)
     try:
         while True:
             try:
@@ -45,6 +72,7 @@ def waited(words: Sequence[str], name: str, folder: str | None = None, given: by
         if process.poll() is None:
             process.kill()
             process.communicate()
+        running.discard(process)
         if told:
             sys.stderr.write("\r" + " " * WIDTH + "\r")
 

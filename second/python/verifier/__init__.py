@@ -25,6 +25,7 @@ __all__ = [
     "NoCertificate",
     "NoReport",
     "NoTable",
+    "fit_told",
     "is_fit",
     "verify_choices",
     "verify_cost",
@@ -152,6 +153,12 @@ def verify_fit(table: bytes, data: bytes) -> Findings:
             break
         found.append(Finding(number, item["item"], True, None, [], 0, fit.says(own, item)))
     return Findings(found, observations_of(own))
+
+
+def fit_told(table: bytes, data: bytes) -> list[str]:
+    """Returns what each item of a certificate on goodness of fit says of a table, in words, if it is accepted; both are bytes."""
+    own = tables.read_table(table)
+    return [fit.says(own, item) for item, _ in certificate.read(data, "fit")[1]]
 
 
 def verify_choices(budgets: bytes, choices: bytes, data: bytes, per: int | None = None) -> Findings:
