@@ -84,6 +84,27 @@ for own = {8, 'TooManyTypes'; 11, 'TooManyCombinations'; 13, 'TooManyPatches'}'
   same({r.rational, r.share, r.wide, size(r.types, 2)}, {true, '1', true, 2 * own{1}}, 'a mixture of choices that rp refuses');
 end
 
+% Goodness of fit. Each of two contradicts the other: the cheaper bundle costs 4 of the 5 that are spent, and one of the two can be kept.
+P = [1 2; 2 1];
+f = rp_fit(P, P);
+same({f.observations, f.pairs, f.garp_pairs, f.wgarp_pairs, f.warp_pairs, f.sarp_pairs, f.violating_observations}, {2, 2, 2, 2, 2, 2, 2}, 'violations');
+same({f.kept, f.kept_most, f.kept_exact, f.hm_low, numel(f.dropped), sort([f.kept_rows, f.dropped])}, {1, 1, true, 0.5, 1, [1 2]}, 'kept observations');
+same({f.exact.levels_low, f.levels_exact, sort(f.levels), abs(f.levels_high - 0.1) < 1e-11}, {'219902325555/2199023255552', true, [0.8; 1], true}, 'levels');
+same({f.exact.squares_low, f.squares_exact, sort(f.squares_levels)}, {'43980465111/2199023255552', true, [0.8; 1]}, 'squares');
+same({f.steps_low, f.steps_high, f.steps_exact, f.exact.steps_low, size(f.removed_steps)}, {0.1, 0.1, true, '1/10', [1 2]}, 'steps');
+same({f.efficiency, f.ccei, f.attained, f.pump, f.exact.pump, f.pump_cycle}, {'4/5', 0.8, true, 0.2, '1/5', [1 2 1]}, 'the other indices');
+same({f.quasilinear_level, f.homothetic_low <= 0.8 && f.homothetic_high >= 0.8, f.homothetic_exact, fieldnames(f.reasons)}, {0.8, true, true, cell(0, 1)}, 'levels of two tests');
+% Costs 2, 1, 3; 3, 2, 1; 1, 3, 2: strict steps from 1 to 2, from 2 to 3 and from 3 to 1.
+f = rp_fit([2 1 3; 3 2 1; 1 3 2], eye(3));
+same({f.garp_pairs, f.wgarp_pairs, f.warp_pairs, f.sarp_pairs, f.pairs, f.violating_observations}, {3, 0, 0, 3, 6, 3}, 'violations of three');
+same({f.kept, f.kept_most, numel(f.dropped), f.exact.levels_low, f.exact.steps_low, f.exact.steps_high, f.pump}, {2, 2, 1, '1/6', '1/6', '1/6', 0.5}, 'indices of three');
+% Nothing violates, and one observation cannot.
+f = rp_fit([1 1; 1 1], [4 4; 2 2]);
+same({f.garp_pairs, f.kept, f.dropped, f.levels_high, f.steps_high, f.removed_steps, f.quasilinear_level}, {0, 2, zeros(1, 0), 0, 0, zeros(0, 2), 1}, 'choices that violate nothing');
+same({rp_fit([1 2], [1 2]).kept, rp_fit([1 2], [1 2]).pairs}, {1, 0}, 'one observation');
+refused(@() rp_fit(P, P, 'Levels', 0.95), 'rp:Refused:OwnLevels', 'Leave out the column e');
+refused(@() rp_fit([0 1], [1 1]), 'rp:Refused:ZeroPrice', 'every price must be positive');
+
 % Numbers: the shortest decimal of each double, or the double itself, and nothing rounded unasked.
 same(rp_mex([0.5 -0 3.18; 100 0.1 9999999]), {'0.5', '0', '3.180000000000000159872115546022541821002960205078125'; ...
   '100', '0.1000000000000000055511151231257827021181583404541015625', '9999999'}, 'exact decimals');
