@@ -1,7 +1,7 @@
 *! version 0.17.0  rptest: revealed preference tests by the program rp
 program define rptest, rclass sortpreserve
     version 13
-    syntax [if] [in], Prices(varlist numeric) Quantities(varlist numeric) [BY(varlist) LEVels(varname numeric) OBS(varname) DECimals(numlist integer max=2 >=0 <=6) DIGITS(numlist integer max=2 >=0 <=6) UNITS(string) PUMP POWer(integer 0) SEED(integer 1) NEWprices(numlist >0) MONEY(numlist >0 max=1) EXE(string) NOWIDE GENerate(name) SAVing(string)]
+    syntax [if] [in], Prices(varlist numeric) Quantities(varlist numeric) [BY(varlist) LEVels(varname numeric) OBS(varname) DECimals(numlist integer max=2 >=0 <=6) DIGITS(numlist integer max=2 >=0 <=6) UNITS(string) PUMP FIT POWer(integer 0) SEED(integer 1) NEWprices(numlist >0) MONEY(numlist >0 max=1) EXE(string) NOWIDE GENerate(name) SAVing(string)]
     if "`c(os)'" == "Windows" {
         display as error "rptest starts the program by a script for sh, which Windows has not: run rp.exe by shell, as clients/README.md describes"
         exit 198
@@ -39,6 +39,11 @@ program define rptest, rclass sortpreserve
         exit 198
     }
 
+    if "`fit'" != "" & ("`by'" != "" | "`nowide'" != "") {
+        display as error "fit is for one table, by rp-wide: leave by() and nowide out, and use if for one unit"
+        exit 198
+    }
+
     * What is told of each group: numbers, texts, and, at new prices, the bounds of each good or of each observation.
     local numbers "status garp afriat homothetic quasilinear attained ccei pump power"
     local texts "efficiency pump_ratio cycle wide message"
@@ -71,6 +76,15 @@ program define rptest, rclass sortpreserve
             local bounds "`bounds' low`good' high`good'"
         }
         local results "`results' `bounds'"
+    }
+    * The indices of goodness of fit stand behind the bounds, and behind them the observations that are not kept.
+    local lists ""
+    if "`fit'" != "" {
+        local indices "garp_pairs wgarp_pairs warp_pairs sarp_pairs violating kept kept_most levels_low levels_high squares_low squares_high steps_low steps_high"
+        local bounds "`bounds' `indices'"
+        local results "`results' `indices'"
+        local lists "dropped"
+        local told "`told' dropped"
     }
     local welfare = "`newprices'" != "" & "`money'" == ""
     if `welfare' & "`generate'" == "" {
@@ -156,11 +170,11 @@ program define rptest, rclass sortpreserve
             local moved = `moved' + r(N)
         }
         local whole = cond(`most' >= 1, floor(log10(`most')) + 1, 0)
-        local fit = min(6, 7 - `whole')
-        if `fit' >= 0 {
-            local fit = cond(round(`most' * 10^`fit') > 9999999, `fit' - 1, `fit')
+        local allowed = min(6, 7 - `whole')
+        if `allowed' >= 0 {
+            local allowed = cond(round(`most' * 10^`allowed') > 9999999, `allowed' - 1, `allowed')
         }
-        local fits "`fits' `fit'"
+        local fits "`fits' `allowed'"
     }
     if "`levels'" != "" {
         quietly replace `lacks' = 1 if missing(`levels') & `touse'
@@ -224,6 +238,9 @@ program define rptest, rclass sortpreserve
     }
     if `power' > 0 {
         file write `file' "power `seed' `power'" _n
+    }
+    if "`fit'" != "" {
+        file write `file' "fit" _n
     }
     if "`money'" != "" {
         file write `file' "demand `goods'" _n
@@ -335,7 +352,7 @@ program define rptest, rclass sortpreserve
         foreach name in `numbers' `bounds' {
             local `name' "."
         }
-        foreach name in `texts' {
+        foreach name in `texts' `lists' {
             local `name' ""
         }
         if `refused'[`first'] {
@@ -344,7 +361,7 @@ program define rptest, rclass sortpreserve
         }
         else if `failed' == 0 {
             file read `file' answered
-            foreach name in `numbers' `texts' `bounds' {
+            foreach name in `numbers' `texts' `bounds' `lists' {
                 file read `file' `name'
             }
             if "`answered'" != "`number'" {
@@ -470,6 +487,9 @@ program define rptest, rclass sortpreserve
         return local cycle "`cycle'"
         return local wide "`wide'"
         return local message "`message'"
+        if "`fit'" != "" {
+            return local dropped "`dropped'"
+        }
         foreach name in `results' {
             return scalar `name' = ``name''
         }

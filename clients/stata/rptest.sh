@@ -8,6 +8,7 @@
 #   header    the first line of each table
 #   program   one line, the path of the program; where it is empty, the variable RP_EXEC names it, else it is rp on the path
 #   asks      a line for each question beside the verdicts: `pump`, `power SEED DRAWS`, and `demand GOODS` or `welfare GOODS`;
+#             `fit`, for the indices of goodness of fit by rp-wide, of tables that are no panel;
 #             `panel` where the tables are those of the units of a panel, which the program rp-panel answers all together;
 #             and `nowide` where what the program withholds is not asked of rp-wide: that of RP_WIDE, else the one beside the program
 #   new       new prices, and for demand what is spent, where these are asked
@@ -15,6 +16,7 @@
 # (1, 0 or .), the efficiency index as the nearest double, but below 1 unless it is 1, the money pump ratio and the power as
 # doubles; as texts the index and the ratio as fractions, the cycle that violates GARP, what rp-wide gave and rp itself withholds, and a message; then for demand two
 # lines for each good, its bounds as doubles near them. For welfare it gets `bounds` too, a line with both for each record.
+# For `fit` it gets 13 numbers more, the counts and bounds that `indices` below prints, and the observations that are not kept.
 # Where groups have errors and `panel` is asked, it gets `hints`: a number of lines, and of each error how many groups have it, and what to do.
 # Of units the fourteen lines are observations, goods, garp, efficiency_floor, attained, homothetic, quasilinear, pump_floor,
 # record and column; as texts efficiency, pump, power and fault. What is no table of just these units gives no results.
@@ -34,10 +36,11 @@ case $rp in
   */*) rp=$here/$rp ;;
 esac
 export rp
-pump="" power="" new="" goods=0 wide=yes panel=""
+pump="" fit="" power="" new="" goods=0 wide=yes panel=""
 while read -r word first second; do
   case $word,$first,$second in
     pump,,) pump=yes ;;
+    fit,,) fit=yes ;;
     panel,,) panel=yes ;;
     nowide,,) wide="" asked_wide=no ;;
     power,*[!0-9]*,* | power,*,*[!0-9]* | demand,*[!0-9]*, | welfare,*[!0-9]*,) exit 1 ;;
@@ -60,7 +63,7 @@ if [ -n "$wide" ]; then
 else
   more="rp-wide may give it"
 fi
-export pump power new wide panel
+export pump fit power new wide panel
 # Units: one long file, whose ids are the numbers of the groups, and one call.
 if [ -n "$panel" ]; then
   program=${RP_PANEL:-}
@@ -106,6 +109,11 @@ ls | sed 's/[.]csv$//' | sort -n | xargs -P "$(nproc 2>/dev/null || echo 2)" -n 
       echo $? >"$n.status"
     fi
     [ -z "$pump" ] || "$rp" pump "$n.csv" >"$n.pump" 2>"$n.why" </dev/null || echo "pump $(first "$n.why")" >>"$n.less"
+    if [ -n "$fit" ] && [ -z "$wide" ]; then
+      echo "fit rp-wide is not beside rp" >>"$n.less"
+    elif [ -n "$fit" ]; then
+      "$wide" fit "$n.csv" >"$n.fit" 2>"$n.why" </dev/null || echo "fit $(first "$n.why")" >>"$n.less"
+    fi
     # shellcheck disable=SC2086
     [ -z "$power" ] || "$rp" power "$n.csv" $power >"$n.power" 2>"$n.why" </dev/null || echo "power $(first "$n.why")" >>"$n.less"
     }
@@ -190,7 +198,7 @@ if [ -n "$panel" ]; then
   mv ../answers ../results
   exit 0
 fi
-awk -v pump="$pump" -v power="$power" -v new="$new" -v goods="$goods" -v places="$places" -v more="$more" -v hints="$hints" '
+awk -v pump="$pump" -v fit="$fit" -v power="$power" -v new="$new" -v goods="$goods" -v places="$places" -v more="$more" -v hints="$hints" '
   BEGIN { while ((getline line < hints) > 0) { at = index(line, "|"); sentence[substr(line, 1, at - 1)] = substr(line, at + 1) } }
   function value(word) { return word == "holds" || word == "model" ? 1 : word == "violated" || word == "none" ? 0 : "." }
   # The double nearest to a fraction of whole numbers below 2^53, where `over` is 1, and else one near it; but only 1 reads 1.
@@ -202,6 +210,25 @@ awk -v pump="$pump" -v power="$power" -v new="$new" -v goods="$goods" -v places=
     return sprintf("%.17g", found)
   }
   function given(bound) { return bound == "" ? "." : bound }
+  # Prints the indices of goodness of fit: four counts of pairs, that of observations in one, how many are kept at least and at most, the
+  # bounds of levels, of squares and of steps; and then the observations that are not kept. What is not there is a point.
+  function indices(   line, word, count, at, it, kept, dropped, lines) {
+    split("", it); split("", kept)
+    while (status == "0" && (getline line < (group ".fit")) > 0) {
+      count = split(line, word, " ")
+      lines++
+      if (word[1] == "violations") for (at = 1; at <= 4; at++) it[at] = word[2 * at + 1]
+      if (word[1] == "violating") it[5] = word[3]
+      if (word[1] == "kept") { it[6] = word[2]; it[7] = word[3] == "to" ? word[4] : word[2] }
+      if (lines > 1 && word[1] == "observations") for (at = 2; at <= count; at++) kept[word[at]] = 1
+      if (word[1] == "levels") { it[word[2] == "mean" ? 8 : 10] = near(word[3], 1); it[word[2] == "mean" ? 9 : 11] = near(word[5], 1) }
+      if (word[1] == "steps") { it[12] = near(word[2], 1); it[13] = near(word[4], 1) }
+    }
+    close(group ".fit")
+    for (at = 1; at <= 13; at++) print it[at] ~ /^[0-9.e-]+$/ ? it[at] : "."
+    for (at = 1; lines && at <= count_of[group]; at++) if (!(at in kept)) dropped = dropped (dropped == "" ? "" : " ") at
+    print dropped
+  }
   # How many withheld values the lines of a file have.
   function held(file,   line, found) {
     while ((getline line < file) > 0) found += gsub(/ withheld /, " withheld ", line)
@@ -277,6 +304,7 @@ awk -v pump="$pump" -v power="$power" -v new="$new" -v goods="$goods" -v places=
     print ccei; print near(ratio, 1); print share; print efficiency; print ratio; print cycle; print wide; print substr(message, 1, 400)
     for (good = 1; new == "demand" && good <= goods; good++) { print given(low[good]); print given(high[good]) }
     for (at = 1; new == "welfare" && at <= count_of[group]; at++) print given(low[at]) " " given(high[at]) > "../bounds"
+    if (fit != "") indices()
   }
 ' ../rows ../groups >../results
 rm -f ../groups

@@ -6,7 +6,7 @@
 {title:Syntax}
 
 {p 8 16 2}{cmd:rptest} [{it:if}] [{it:in}]{cmd:,} {opt p:rices(varlist)} {opt q:uantities(varlist)}
-[{opt by(varlist)} {opt lev:els(varname)} {opt obs(varname)} {opt dec:imals(# [#])} {opt units(name)} {opt pump} {opt pow:er(#)} {opt seed(#)}
+[{opt by(varlist)} {opt lev:els(varname)} {opt obs(varname)} {opt dec:imals(# [#])} {opt units(name)} {opt pump} {opt fit} {opt pow:er(#)} {opt seed(#)}
 {opt new:prices(# # ..)} {opt money(#)} {opt gen:erate(stub)} {opt sav:ing(filename[, replace])} {opt exe(filename)} {opt nowide}]
 
 {title:Description}
@@ -39,6 +39,10 @@ r(459). The message says which {opt decimals()} fit. {opt digits()} is an older 
 {phang}{opt units(name)} is what the groups are called, such as subjects, in what is displayed.
 
 {phang}{opt pump} adds the maximum money pump index of each group (Echenique, Lee and Shum 2011).
+
+{phang}{opt fit} adds indices of goodness of fit of one table, by the program rp-wide. It is not available with {opt by()} or {opt nowide}.
+For several units, use {cmd:if}. A table of 50 observations takes less than a second, and one of 512 can take two minutes. Levels are
+rejected.
 
 {phang}{opt power(#)} draws 1 to 1000 random behaviours on the budgets of each group, and adds the share that violates GARP
 (Bronars 1987). {opt seed(#)} is 1 by default. The draws are those of the program's command power, which are nearer to equal shares than
@@ -76,6 +80,12 @@ A verdict is 1 if it holds, 0 if it is violated, and missing if it is undetermin
 {p2col:{cmd:r(attained)}}whether GARP holds at the CCEI itself{p_end}
 {p2col:{cmd:r(ccei)}}the double nearest to the CCEI, below 1 unless it is 1{p_end}
 {p2col:{cmd:r(pump)}, {cmd:r(power)}}if requested{p_end}
+{p2col:{cmd:r(garp_pairs)}}with {opt fit}, ordered pairs that violate GARP; likewise {cmd:r(wgarp_pairs)}, {cmd:r(warp_pairs)}, {cmd:r(sarp_pairs)}{p_end}
+{p2col:{cmd:r(violating)}}observations in a pair that violates GARP{p_end}
+{p2col:{cmd:r(kept)}, {cmd:r(kept_most)}}bounds on the largest number of observations that satisfy GARP together (Houtman and Maks 1985){p_end}
+{p2col:{cmd:r(levels_low)}, {cmd:r(levels_high)}}bounds on Varian's index, the mean of 1 - e{p_end}
+{p2col:{cmd:r(squares_low)}, {cmd:r(squares_high)}}bounds on the mean of (1 - e)^2; no root is taken{p_end}
+{p2col:{cmd:r(steps_low)}, {cmd:r(steps_high)}}bounds on the minimum cost index (Dean and Martin 2016){p_end}
 {p2col:{cmd:r(low}{it:#}{cmd:)}, {cmd:r(high}{it:#}{cmd:)}}bounds on the demand of each good{p_end}
 
 {pstd}and macros:
@@ -83,6 +93,7 @@ A verdict is 1 if it holds, 0 if it is violated, and missing if it is undetermin
 {p2col:{cmd:r(efficiency)}}the CCEI as a fraction{p_end}
 {p2col:{cmd:r(pump_ratio)}}the money pump index as a fraction{p_end}
 {p2col:{cmd:r(cycle)}}the observations of a cycle that violates GARP{p_end}
+{p2col:{cmd:r(dropped)}}with {opt fit}, the observations that are not kept{p_end}
 {p2col:{cmd:r(wide)}}what rp-wide found and rp leaves undetermined (homothetic, demand, welfare){p_end}
 {p2col:{cmd:r(message)}}why a verdict is missing{p_end}
 
@@ -105,7 +116,7 @@ is neither a matrix nor a macro of a group: use {opt generate()} or {opt saving(
 {p2colreset}{...}
 {title:Methods and formulas}
 
-{pstd}See docs/reference/rp-analyse.md, rp-pump.md, rp-power.md, rp-demand.md and rp-welfare.md of the program.
+{pstd}See docs/reference/rp-analyse.md, rp-pump.md, rp-fit.md, rp-power.md, rp-demand.md and rp-welfare.md of the program.
 
 {title:References}
 
@@ -115,7 +126,11 @@ is neither a matrix nor a macro of a group: use {opt generate()} or {opt saving(
 
 {phang}Brown, D. J., and C. Calsamiglia. 2007. The nonparametric approach to applied welfare analysis. {it:Economic Theory} 31: 183-188.
 
+{phang}Dean, M., and D. Martin. 2016. Measuring rationality with the minimum cost of revealed preference violations. {it:Review of Economics and Statistics} 98: 524-534.
+
 {phang}Echenique, F., S. Lee, and M. Shum. 2011. The money pump as a measure of revealed preference violations. {it:Journal of Political Economy} 119: 1201-1223.
+
+{phang}Houtman, M., and J. A. H. Maks. 1985. Determining all maximal data subsets consistent with revealed preference. {it:Kwantitatieve Methoden} 19: 89-104.
 
 {phang}Varian, H. R. 1982. The nonparametric approach to demand analysis. {it:Econometrica} 50: 945-973.
 

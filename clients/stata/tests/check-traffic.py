@@ -66,7 +66,7 @@ class Stata:
     def __init__(self, data, room, options, panel):
         self.data, self.room, self.panel = data, room, panel
         self.count = len(next(iter(data.values())))
-        names = ("decimals", "digits", "units", "by", "levels", "obs", "exe", "nowide", "generate", "saving", "pump", "newprices", "money")
+        names = ("decimals", "digits", "units", "by", "levels", "obs", "exe", "nowide", "generate", "saving", "pump", "fit", "newprices", "money")
         self.locals = {**{name: "" for name in names}, "power": "0", "seed": "1", **options}
         self.system, self.rownames = "Unix", {}
         self.results, self.r, self.code, self.files = {}, {}, 0, {}
@@ -449,6 +449,10 @@ def example(name, text=()):
 BOTH = {"prices": "p_bread p_wine", "quantities": "q_bread q_wine"}
 
 
+# What `fit` counts: pairs that violate each axiom, observations in one, and how many can be kept.
+COUNTS = ["garp_pairs", "wgarp_pairs", "warp_pairs", "sarp_pairs", "violating", "kept", "kept_most"]
+
+
 def check_verdicts():
     found, code, _, _ = call(example("contradiction.csv"), **BOTH)
     assert code == 0 and [found[it] for it in ("status", "garp", "afriat", "homothetic", "quasilinear")] == [0] * 5, found
@@ -607,6 +611,21 @@ def check_more():
     assert code == 0 and (found["pump"], found["pump_ratio"]) == (0.2, "1/5") and found["verdicts"][0][7:] == [0.2, found["power"]], found
     assert 0 <= found["power"] <= 1 and found["power"] * 100 == round(found["power"] * 100), found
     assert stata.data["v_pump"] == [0.2, 0.2] and stata.data["v_power"] == [found["power"]] * 2 and stata.data["v_pump_ratio"] == ["1/5", "1/5"]
+    # Each of the two contradicts the other: one can be kept, the level 4/5 of one is enough, and one step costs 1 of 10.
+    found, code, _, stata = call(example("contradiction.csv"), **BOTH, fit="fit", generate="v")
+    if found["message"] == "fit rp-wide is not beside rp":
+        print("check-traffic: rp-wide is not beside rp, so goodness of fit is left out")
+    else:
+        assert code == 0 and [found[it] for it in COUNTS] == [2, 2, 2, 2, 2, 1, 1], found
+        assert found["steps_low"] == found["steps_high"] == 0.1 and found["dropped"] in ("1", "2"), found
+        assert 0.1 - 1e-11 < found["levels_low"] <= 0.1 <= found["levels_high"] < 0.1 + 1e-11, found
+        assert 0.02 - 1e-11 < found["squares_low"] <= 0.02 <= found["squares_high"] < 0.02 + 1e-11, found
+        assert stata.data["v_kept"] == [1, 1] and stata.data["v_dropped"] == [found["dropped"]] * 2, stata.data
+        found, _, _, _ = call(example("decimals.csv"), **BOTH, fit="fit", pump="pump")
+        assert [found[it] for it in COUNTS] == [0, 0, 0, 0, 0, 2, 2] and (found["dropped"], found["levels_high"], found["pump"]) == ("", 0, 0), found
+        found, _, _, _ = call(example("levels.csv"), **BOTH, levels="e", fit="fit")
+        assert found["message"] == "fit OwnLevels" and found["kept"] == found["levels_low"] == MISSING, found
+    assert call(example("decimals.csv"), **BOTH, fit="fit", nowide="nowide")[1] == 198
     found, _, _, _ = call(example("decimals.csv"), **BOTH, pump="pump")
     assert (found["pump"], found["pump_ratio"], "power" in found) == (0, "0", False), found
     # With levels neither is defined, and the verdicts stand.
