@@ -29,7 +29,7 @@ let literal text =
   let size = String.length text in
   let parts = ref [] and begun = ref [] in
   let flush_lines () =
-    if !begun <> [] then parts := sprintf "text_lines [\n  %s]" (String.concat ";\n  " (List.rev !begun)) :: !parts;
+    if !begun <> [] then parts := sprintf "flat_map (fun line => text line ++ [10]) [\n  %s]" (String.concat ";\n  " (List.rev !begun)) :: !parts;
     begun := [] in
   let rec go i =
     if i < size then begin
@@ -86,7 +86,7 @@ let stated = function
       let e = fraction e in
       [ ("efficiency_is", sprintf "efficiency_index observed %s" e, "proj1 it");
         ((if attained then "efficiency_attained" else "efficiency_not_attained"),
-         sprintf "%sgarp_at observed %s" (if attained then "" else "~ ") e, "proj2 it") ]
+         sprintf "%sgarp observed (at_level observed %s)" (if attained then "" else "~ ") e, "proj2 it") ]
   | HomotheticHolds -> [ ("homothetic_test_holds", "homothetic_test observed", "it") ]
   | HomotheticViolated -> [ ("homothetic_test_violated", "~ homothetic_test observed", "it") ]
   | QuasilinearHolds -> [ ("quasilinear_test_holds", "quasilinear_test observed", "it") ]
@@ -111,7 +111,16 @@ let stated_over claim =
            u l goods goods held, "it") ]
   | NoAfriatNumbers -> [ ("afriat_no_consumer_over", none held, "it") ]
   | EfficiencyIs (e, attained) ->
-      [ ("efficiency_over", sprintf "claim_over K observed (EfficiencyIs %s %b)" (fraction e) attained, "it") ]
+      let e = fraction e in
+      let at level = sprintf "(fun s => times K %s (spent_over K observed s))" level in
+      let within = "forall e, ~ at_most K e (zero K) -> at_most K e (one K) ->\n    " in
+      [ ("efficiency_below_over", sprintf "%s~ at_most K (fraction_over K %s) e -> rationalizable_over K observed %s" within e (at "e"),
+         "fun e' low high => proj1 (it e' low high)");
+        ("efficiency_above_over", sprintf "%s~ at_most K e (fraction_over K %s) -> irrational_over K observed %s" within e (at "e"),
+         "fun e' low high => proj1 (proj2 (it e' low high))");
+        ("efficiency_at_over", sprintf "%se = fraction_over K %s -> %s K observed %s" within e
+           (if attained then "rationalizable_over" else "irrational_over") (at "e"),
+         "fun e' low high => proj2 (proj2 (it e' low high))") ]
   | HomotheticHolds ->
       [ ("homogeneous_utility_over",
          sprintf "exists u, increasing_over K %s u /\\ concave_over K %s u /\\ homogeneous_over K %s u /\\\n    rationalizes_over K observed %s (by_utility_over K u)"
@@ -129,13 +138,13 @@ let stated_over claim =
       let about good bound which value step =
         let stated who n side =
           (sprintf "demand_good_%d_%s_%s_over" (good + 1) bound n,
-           sprintf "%s K (%s K observed %s) %d (fraction_over K %s)" which who at good (fraction value),
+           sprintf "best_bound_over K %s (bought_by_over K (%s K) observed %s) %d (fraction_over K %s)" which who at good (fraction value),
            sprintf "%s (proj2 (proj2 it) %d%%nat _ _ _ eq_refl (%s eq_refl))" step good side) in
-        [ stated "bought_by_some_over" "of_consumers" "or_introl"; stated "bought_by_utility_over" "of_utilities" "or_intror" ] in
-      ("demand_some_consumer_over", sprintf "exists x, bought_by_utility_over K observed %s x" at, "proj1 (proj2 it)")
+        [ stated "consumer_over" "of_consumers" "or_introl"; stated "has_utility_over" "of_utilities" "or_intror" ] in
+      ("demand_some_consumer_over", sprintf "exists x, bought_by_over K (has_utility_over K) observed %s x" at, "proj1 (proj2 it)")
       :: List.concat (List.mapi (fun good (lower, upper) ->
-             (match lower with Some v -> about good "lower" "infimum_over" v "proj1" | None -> [])
-             @ (match upper with Some v -> about good "upper" "supremum_over" v "proj2" | None -> []))
+             (match lower with Some v -> about good "lower" "(at_most K)" v "proj1" | None -> [])
+             @ (match upper with Some v -> about good "upper" "(fun a b => at_most K b a)" v "proj2" | None -> []))
            bounds)
   | WelfareBounds (p, t, lower, _, s) ->
       ("welfare_upper_bound_over", consumer (sprintf " prefers (bought_over K observed %d) (bought_over K observed %d)" s t),
@@ -202,7 +211,7 @@ let whole_numbers l = if l = [] then "(@nil nat)" else listed string_of_int l ^ 
 
 let steps_text l = sprintf "[%s]%%nat" (String.concat "; " (List.map (fun (s, t) -> sprintf "(%d, %d)" s t) l))
 let some_steps l = if l = [] then "(@nil (nat * nat))" else steps_text l
-let loss squared = if squared then "rest_squared" else "rest"
+let loss squared = if squared then "(fun e => (1 - e) * (1 - e))%Q" else "(fun e => 1 - e)%Q"
 
 let fit_claim_text = function
   | CountsAre (g, o, k, w, s) -> sprintf "CountsAre %d %d %d %d %d" g o k w s
@@ -248,27 +257,28 @@ let stated_fit = function
            (number high), "it") ]
 
 (* The same of people over every ordered field. *)
+let some_utility_at among levels =
+  sprintf "exists u, increasing_over K %s u /\\ concave_over K %s u /\\\n    rationalizes_at K observed %s %s (by_utility_over K u)"
+    goods goods among levels
 let stated_fit_over = function
   | FitEfficiency it -> stated_over it
   | KeptAre (ones, most) ->
-      [ ("kept_utility_over", sprintf "some_utility_at K observed %s (fun _ => 1%%Q)" (whole_numbers ones), "proj1 it");
+      [ ("kept_utility_over", some_utility_at (whole_numbers ones) "(fun _ => 1%Q)", "proj1 it");
         ("no_consumer_kept_more_over",
-         "forall among prefers, NoDup among ->\n    Forall (fun s => (s < size observed)%nat) among -> preference_over K (goods observed) prefers ->\n"
-         ^ "    monotone_over K (goods observed) prefers \\/ nonsatiated_over K (goods observed) prefers ->\n"
+         "forall among prefers, NoDup among ->\n    Forall (fun s => (s < size observed)%nat) among -> consumer_over K (goods observed) prefers ->\n"
          ^ sprintf "    rationalizes_at K observed among (fun _ => 1%%Q) prefers -> (List.length among <= %d)%%nat" most,
-         "fun among prefers d i p w r => proj2 it among prefers d i (conj p w) r") ]
+         "proj2 it") ]
   | MeanBetween (squared, low, high) ->
       let name text = if squared then "squares_" ^ text else "levels_" ^ text in
       [ (name "of_some_consumer_over",
          sprintf "forall w,\n    (%s * inject_Z (Z.of_nat (size observed)) < w)%%Q -> exists e, level_vector observed e /\\\n" (fraction high)
-         ^ sprintf "    some_utility_at K observed (seq 0 (size observed)) e /\\ (lost observed %s e < w)%%Q" (loss squared),
+         ^ sprintf "    (%s) /\\\n    (lost_by %s e (seq 0 (size observed)) < w)%%Q" (some_utility_at "(seq 0 (size observed))" "e") (loss squared),
          "proj1 it");
         (name "of_consumers_over",
-         "forall e prefers, level_vector observed e ->\n    preference_over K (goods observed) prefers ->\n"
-         ^ "    monotone_over K (goods observed) prefers \\/ nonsatiated_over K (goods observed) prefers ->\n"
+         "forall e prefers, level_vector observed e ->\n    consumer_over K (goods observed) prefers ->\n"
          ^ "    rationalizes_at K observed (seq 0 (size observed)) e prefers ->\n"
-         ^ sprintf "    (%s * inject_Z (Z.of_nat (size observed)) <= lost observed %s e)%%Q" (fraction low) (loss squared),
-         "fun e prefers v p w r => proj2 it e prefers v (conj p w) r") ]
+         ^ sprintf "    (%s * inject_Z (Z.of_nat (size observed)) <= lost_by %s e (seq 0 (size observed)))%%Q" (fraction low) (loss squared),
+         "proj2 it") ]
   | _ -> []
 
 (* What is claimed of a table by a certificate, and what has to be said of it: what the claims are, how they stand in
