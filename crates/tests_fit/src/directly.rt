@@ -110,7 +110,7 @@ fn assert_levels(
         );
         let bounds = homothetic_level(alloc, text)?;
         assert_eq!(rt; bounds.high, high, "{text}");
-        assert!(rt; bounds.high - bounds.low <= 1, "{text}");
+        assert!(rt; bounds.high.saturating_sub(bounds.low) <= 1, "{text}");
     }
     Ok(())
 }
