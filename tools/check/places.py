@@ -98,7 +98,7 @@ MANUAL_LIMITS = {
     "table.records": "A table has at most {} observations", "table.goods": "observations of {} goods. It", "command_line.rows": "1 to {} observations",
     "command_line.draws": "1 to {}, random behaviours", "patch.units": "units, 1 to {},",
 }  # fmt: skip
-STATA_LIMITS = {"table.places": "min({}, 7 - `whole')", "table.largest": "> {}, `fit' - 1", "table.level_scale": "; {} is the whole of what was spent"}
+STATA_LIMITS = {"table.places": "min({}, 7 - `whole')", "table.largest": "> {}, `allowed' - 1", "table.level_scale": "; {} is the whole of what was spent"}
 
 
 def of_documents(facts):
