@@ -42,6 +42,9 @@ int32_t rp_answer_wide(GIVEN) {
 }
 """
 
+# Calls that the tests start take interrupts, also where a shell runs the tests in the background, which ignores them.
+signal.signal(signal.SIGINT, signal.default_int_handler)
+
 
 def is_alive(number):
     """Whether a process runs; one that has ended and was not waited for does not."""
