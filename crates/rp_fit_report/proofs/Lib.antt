@@ -1,3 +1,4 @@
 pub mod Lines
+pub mod MeanLack
 pub mod PrintedLevels
 pub mod Spent

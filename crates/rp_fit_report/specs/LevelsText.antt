@@ -13,6 +13,7 @@ use Rattle.rp_print.specs.ListText.{fractions_text, line_of, numbers_text}
 use Rattle.rp_print.specs.LowestTerms.{lowest_terms}
 use Rattle.rp_table.specs.Sums.{sum_below}
 use Rattle.rp_fit_report.specs.CyclesText.{cycles_text}
+use Rattle.rp_fit_report.specs.MeanLack.{common_den, lack_of, mean_of}
 
 -- what the level of s lacks of 1 in units of 2^-40, rounded down, and so many more where it is below 1
 abbrev pub lack_at : (ℕ → ℕ → ℕ) → Measure → List ℕ → ℕ → ℕ → ℕ
@@ -26,9 +27,14 @@ lack_total n c part more = sum_below n (lack_at c (measure_of part.lack) part.at
 abbrev pub lower : ℕ → LevelsPart → Fraction
 lower n part = lowest_terms (weight_of_all part.walks) (part.den * 2 ^ 40 * n)
 
--- the upper bound, rounded up for each observation
+-- an upper bound, rounded up for each observation
+abbrev pub rounded_up : ℕ → (ℕ → ℕ → ℕ) → LevelsPart → Fraction
+rounded_up n c part = lowest_terms (lack_total n c part 1) (2 ^ 40 * n)
+
+-- the upper bound: the mean of what the levels lack of 1, where the number of observations times the least common
+-- denominator is within the width of fractions; else it is rounded up
 abbrev pub upper : ℕ → (ℕ → ℕ → ℕ) → LevelsPart → Fraction
-upper n c part = lowest_terms (lack_total n c part 1) (2 ^ 40 * n)
+upper n c part = if nat_lt (common_den n (lack_of c part) * n) (2 ^ 127) then mean_of n (lack_of c part) else rounded_up n c part
 
 -- the weights leave less than 2^-40 for each observation
 abbrev pub is_exact : ℕ → (ℕ → ℕ → ℕ) → LevelsPart → Bool

@@ -9,9 +9,10 @@ ghost use Rattle.rp_table.specs.Cost.{cost_of};
 ghost use Rattle.rp_table.specs.Tables.{records_of};
 ghost use Rattle.rp_fit_report.specs.LevelsText.{exact_text, is_exact, lack_at, lack_total};
 ghost use Rattle.rp_fit_report.specs.LevelsText.{level_of, levels_text, lower, measure_text};
-ghost use Rattle.rp_fit_report.specs.LevelsText.{range_text, upper};
+ghost use Rattle.rp_fit_report.specs.LevelsText.{range_text, rounded_up, upper};
 
 use crate::cycles::push_cycles;
+use crate::mean::{common_den, mean_over};
 use rp_check_levels::{Measure, limit};
 use rp_clauses::input::Input;
 use rp_fit::{Lack, LevelsPart, WeightedWalk};
@@ -115,12 +116,25 @@ fn parts_over(den: u64, n: u32) -> u128
     u128::from(den) * PARTS * u128::from(n)
 }
 
-/// The upper bound, rounded up for each observation.
+/// The upper bound: the mean of what the levels lack of 1, rounded up only where its terms are too wide.
 fn upper(input: &Input<'_>, part: &LevelsPart) -> Frac
     requires { LevelsFail (records_of input.now.table.now) (cost_of input.now.table.now) part.now
         (Ok tt) }
     ensures { result
         ≡ upper (records_of input.now.table.now) (cost_of input.now.table.now) part.now }
+{
+    match common_den(input, part) {
+        Some(den) => mean_over(input, part, den),
+        None => rounded_up(input, part),
+    }
+}
+
+/// An upper bound, rounded up for each observation.
+fn rounded_up(input: &Input<'_>, part: &LevelsPart) -> Frac
+    requires { LevelsFail (records_of input.now.table.now) (cost_of input.now.table.now) part.now
+        (Ok tt) }
+    ensures { result
+        ≡ rounded_up (records_of input.now.table.now) (cost_of input.now.table.now) part.now }
 {
     let total = lack_total(input, part, 1);
     lowest_terms(total, parts_of(input.n()))
@@ -191,7 +205,7 @@ fn lack_at(input: &Input<'_>, part: &LevelsPart, more: u128, s: u32) -> u128
 }
 
 /// The observation at whose bundle the level of `s` is.
-fn place_at(input: &Input<'_>, part: &LevelsPart, s: u32) -> u32
+pub(crate) fn place_at(input: &Input<'_>, part: &LevelsPart, s: u32) -> u32
     requires accepted { LevelsFail (records_of input.now.table.now) (cost_of input.now.table.now)
         part.now (Ok tt) }
     requires observed { s < records_of input.now.table.now }
