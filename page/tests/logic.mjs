@@ -897,9 +897,9 @@ const FIT_OF_TWO =
   "observations 2 goods 2 places 0 0\nviolations garp 2 wgarp 2 warp 2 sarp 2 of 2\nviolating observations 2 of 2\n" +
   "efficiency 4/5 attained yes\nbelow 1 1\nabove 1 2 1\nat ranks 2 2\n" +
   "kept 1 of 2\nobservations 1\nranks 0\ngroups over 1\npairs 1 2 weight 1\n" +
-  "levels mean 219902325555/2199023255552 to 54975581389/549755813888 exact\nat 4/5 1\nranks 0 1\ncycles over 1\n" +
+  "levels mean 219902325555/2199023255552 to 1/10 exact\nat 4/5 1\nranks 0 1\ncycles over 1\n" +
   "cycle 1 2 1 weight 219902325555\n" +
-  "levels squares 43980465111/2199023255552 to 5497558139/274877906944 exact\nat 4/5 1\nranks 0 1\ncycles over 1\n" +
+  "levels squares 43980465111/2199023255552 to 1/50 exact\nat 4/5 1\nranks 0 1\ncycles over 1\n" +
   "cycle 1 2 1 weight 43980465111\n" +
   "steps 1/10 to 1/10 exact\nremoved 1 to 2\nranks 0 1\ncycles over 1\ncycle 1 2 1 weight 1\n" +
   "pump 1/5\ncycle 1 2 1\nvalues 0 0\nquasilinear level 4/5\ncycle 1 2 1\nvalues 0 0\n" +
@@ -909,9 +909,9 @@ const FIT_OF_THREE =
   "observations 3 goods 3 places 0 0\nviolations garp 3 wgarp 0 warp 0 sarp 3 of 6\nviolating observations 3 of 3\n" +
   "efficiency 1/2 attained yes\nbelow 1 1 1\nabove 1 2 3 1\nat ranks 3 3 3\n" +
   "kept 2 of 3\nobservations 1 2\nranks 1 0\ngroups over 1\ncycle 1 2 3 1 weight 1\n" +
-  "levels mean 1/6 to 183251937963/1099511627776 exact\nat 1 1 1/2\nranks 2 1 0\ncycles over 1\n" +
+  "levels mean 1/6 to 1/6 exact\nat 1 1 1/2\nranks 2 1 0\ncycles over 1\n" +
   "cycle 1 2 3 1 weight 549755813888\n" +
-  "levels squares 1/12 to 274877906945/3298534883328 exact\nat 1 1 1/2\nranks 2 1 0\ncycles over 1\n" +
+  "levels squares 1/12 to 1/12 exact\nat 1 1 1/2\nranks 2 1 0\ncycles over 1\n" +
   "cycle 1 2 3 1 weight 274877906944\n" +
   "steps 1/6 to 1/6 exact\nremoved 3 to 1\nranks 2 1 0\ncycles over 1\ncycle 1 2 3 1 weight 1\n" +
   "pump 1/2\ncycle 1 2 3 1\nvalues 0 0 0\nquasilinear level 1/2\ncycle 1 2 3 1\nvalues 0 0 0\n" +
@@ -1005,7 +1005,7 @@ test("goodness of fit of a cycle of three, and of choices that violate nothing, 
 
 test("bounds that do not meet are both told, rounded outward, and an item that is not found is no verdict", () => {
   const open = parseFit(
-    FIT_OF_TWO.replace("kept 1 of 2", "kept 40 to 41 of 50").replace("/549755813888 exact", "/274877906944")
+    FIT_OF_TWO.replace("kept 1 of 2", "kept 40 to 41 of 50").replace("to 1/10 exact", "to 54975581389/274877906944")
       .replace("steps 1/10 to 1/10 exact", "steps 1/7 to 1/3").replace(/quasilinear level [^]*$/, ""),
   );
   assert.equal(keptSays(open.kept).head, "From 40 to 41 of 50 can stay");

@@ -58,11 +58,11 @@ ranks 0
 groups over 1
 pairs 1 weight 1
 pairs 2 weight 1
-levels mean 0 to 54975581389/549755813888
+levels mean 0 to 1/10
 at 4/5 1
 ranks 0 1
 cycles over 1
-levels squares 0 to 5497558139/274877906944
+levels squares 0 to 1/50
 at 4/5 1
 ranks 0 1
 cycles over 1
@@ -76,12 +76,12 @@ observations 1
 ranks 0
 groups over 1
 pairs 1 2 weight 1
-levels mean {FIFTH}/{2 * UNIT} to 54975581389/549755813888 exact
+levels mean {FIFTH}/{2 * UNIT} to 1/10 exact
 at 4/5 1
 ranks 0 1
 cycles over 1
 cycle 1 2 1 weight {FIFTH}
-levels squares {SQUARE}/{2 * UNIT} to 5497558139/274877906944 exact
+levels squares {SQUARE}/{2 * UNIT} to 1/50 exact
 at 4/5 1
 ranks 0 1
 cycles over 1
@@ -139,9 +139,9 @@ class Reports(unittest.TestCase):
         self.assertEqual((fit.efficiency, fit.ccei, fit.attained), (Fraction(4, 5), 0.8, True))
         self.assertEqual((fit.kept, fit.kept_most, fit.kept_exact, fit.kept_rows, fit.dropped), (1, 1, True, [1], [2]))
         self.assertEqual((fit.hm_low, fit.hm_high), (Fraction(1, 2), Fraction(1, 2)))
-        # A level of 4/5 lacks a fifth, which counts as its whole parts of 2^40 below, and one part more above.
-        self.assertEqual((fit.levels_low, fit.levels_high, fit.levels_exact), (Fraction(FIFTH, 2 * UNIT), Fraction(FIFTH + 1, 2 * UNIT), True))
-        self.assertEqual((fit.squares_low, fit.squares_high, fit.squares_exact), (Fraction(SQUARE, 2 * UNIT), Fraction(SQUARE + 1, 2 * UNIT), True))
+        # A level of 4/5 lacks a fifth. The lower bound counts its whole parts of 2^40, and the upper bound is exact.
+        self.assertEqual((fit.levels_low, fit.levels_high, fit.levels_exact), (Fraction(FIFTH, 2 * UNIT), Fraction(1, 10), True))
+        self.assertEqual((fit.squares_low, fit.squares_high, fit.squares_exact), (Fraction(SQUARE, 2 * UNIT), Fraction(1, 50), True))
         self.assertEqual((fit.levels, fit.squares_levels), ({1: Fraction(4, 5), 2: 1}, {1: Fraction(4, 5), 2: 1}))
         self.assertEqual((fit.steps_low, fit.steps_high, fit.steps_exact, fit.removed_steps), (Fraction(1, 10), Fraction(1, 10), True, [(1, 2)]))
         self.assertEqual((fit.pump, fit.pump_cycle, fit.quasilinear_level), (Fraction(1, 5), [1, 2, 1], Fraction(4, 5)))
@@ -152,7 +152,7 @@ class Reports(unittest.TestCase):
     def test_bounds_that_do_not_meet(self):
         fit = told(OPEN)
         self.assertEqual((fit.kept, fit.kept_most, fit.kept_exact, fit.hm_low, fit.hm_high), (1, 2, False, Fraction(1, 2), 1))
-        self.assertEqual((fit.levels_low, fit.levels_high, fit.levels_exact), (0, Fraction(FIFTH + 1, 2 * UNIT), False))
+        self.assertEqual((fit.levels_low, fit.levels_high, fit.levels_exact), (0, Fraction(1, 10), False))
         self.assertEqual((fit.steps_low, fit.steps_high, fit.steps_exact), (0, Fraction(1, 10), False))
         self.assertEqual((fit.quasilinear_level, fit.homothetic_low, fit.homothetic_high, fit.homothetic_exact), (None, None, None, None))
         self.assertEqual(set(fit.reasons), {"quasilinear_level", "homothetic_level"})
@@ -195,7 +195,7 @@ class Reports(unittest.TestCase):
         self.assertEqual((rows["CCEI"]["low_exact"], rows["CCEI"]["exact"]), (Fraction(4, 5), True))
         # A bound as a float is no better than the bound.
         avi = rows["AVI"]
-        self.assertTrue(Fraction(avi["high"]) >= avi["high_exact"] == Fraction(FIFTH + 1, 2 * UNIT))
+        self.assertTrue(Fraction(avi["high"]) >= avi["high_exact"] == Fraction(1, 10))
         self.assertEqual((rows["quasilinear level"]["low"], rows["quasilinear level"]["exact"]), (None, None))
         self.assertIn("no evidence", rows["quasilinear level"]["reason"])
         self.assertEqual(told(OPEN).as_dict()["dropped"], [2])
@@ -306,8 +306,8 @@ class WorkedRows(unittest.TestCase):
         fit = revealed.fit(*TWO)
         self.assertEqual([fit.garp_pairs, fit.wgarp_pairs, fit.warp_pairs, fit.sarp_pairs, fit.pairs, fit.violating_observations], [2] * 6)
         self.assertEqual((fit.kept, fit.kept_most, len(fit.dropped), fit.hm_low), (1, 1, 1, Fraction(1, 2)))
-        self.assertEqual((fit.levels_low, fit.levels_high, fit.levels_exact), (Fraction(FIFTH, 2 * UNIT), Fraction(FIFTH + 1, 2 * UNIT), True))
-        self.assertEqual((fit.squares_low, fit.squares_high, fit.squares_exact), (Fraction(SQUARE, 2 * UNIT), Fraction(SQUARE + 1, 2 * UNIT), True))
+        self.assertEqual((fit.levels_low, fit.levels_high, fit.levels_exact), (Fraction(FIFTH, 2 * UNIT), Fraction(1, 10), True))
+        self.assertEqual((fit.squares_low, fit.squares_high, fit.squares_exact), (Fraction(SQUARE, 2 * UNIT), Fraction(1, 50), True))
         self.assertEqual((sorted(fit.levels.values()), sorted(fit.squares_levels.values())), ([Fraction(4, 5), 1],) * 2)
         self.assertEqual((fit.steps_low, fit.steps_high, fit.steps_exact, len(fit.removed_steps)), (Fraction(1, 10), Fraction(1, 10), True, 1))
         self.assertEqual((fit.efficiency, fit.pump, fit.quasilinear_level), (Fraction(4, 5), Fraction(1, 5), Fraction(4, 5)))

@@ -51,8 +51,8 @@ fn crowd(alloc: Global) -> Result<String, Fail> {
 /// away, and each costs 1 of the 576 that was spent.
 const OF_BLOCKS: [&str; 4] = [
     "kept 504 of 512",
-    "levels mean 219902325555/70368744177664 to 54975581389/17592186044416 exact",
-    "levels squares 43980465111/70368744177664 to 5497558139/8796093022208 exact",
+    "levels mean 219902325555/70368744177664 to 1/320 exact",
+    "levels squares 43980465111/70368744177664 to 1/1600 exact",
     "steps 1/72 to 1/72 exact",
 ];
 

@@ -113,8 +113,8 @@ const SMALL: &[Indices] = &[
         TWO,
         [
             "kept 1 of 2",
-            "levels mean 219902325555/2199023255552 to 54975581389/549755813888 exact",
-            "levels squares 43980465111/2199023255552 to 5497558139/274877906944 exact",
+            "levels mean 219902325555/2199023255552 to 1/10 exact",
+            "levels squares 43980465111/2199023255552 to 1/50 exact",
             "steps 1/10 to 1/10 exact",
         ],
     ),
@@ -123,8 +123,8 @@ const SMALL: &[Indices] = &[
         "observations 3 goods 3 places 0 0\n",
         [
             "kept 2 of 3",
-            "levels mean 1/6 to 183251937963/1099511627776 exact",
-            "levels squares 1/12 to 274877906945/3298534883328 exact",
+            "levels mean 1/6 to 1/6 exact",
+            "levels squares 1/12 to 1/12 exact",
             "steps 1/6 to 1/6 exact",
         ],
     ),
@@ -180,16 +180,27 @@ const RING: &str = "p_a,q_a,p_b,q_b,p_c,q_c,p_d,q_d,p_e,q_e,p_f,q_f,p_g,q_g,p_h,
 /// Costs 4, 2, 1; 1, 4, 8; 1, 8, 4: the first observation contradicts both others, by steps that cost 2 and 3.
 const FORK: &str = "p_a,q_a,p_b,q_b,p_c,q_c\n4,1,2,0,1,0\n1,0,4,1,8,0\n1,0,8,0,4,1\n";
 
-/// A table where greedy removal keeps too few, one where the bounds do not meet, and one where two walks load one
-/// level.
+/// Three pairs of observations that contradict each other, by steps that cost 4096 of 4194301, of 4194303 and of
+/// 4194302. The three numbers have no common divisor, so the mean has their product as its denominator. The squares of
+/// all three pass 128 bits together. Each square is rounded up to units of 2^-40, from 1048577, 1048576 and 1048577.
+const COPRIME: &str = "p_a,q_a,p_b,q_b,p_c,q_c,p_d,q_d,p_e,q_e,p_f,q_f\n\
+    4194301,1,4190205,0,5000000,0,5000000,0,5000000,0,5000000,0\n\
+    4190205,0,4194301,1,5000000,0,5000000,0,5000000,0,5000000,0\n\
+    5000000,0,5000000,0,4194303,1,4190207,0,5000000,0,5000000,0\n\
+    5000000,0,5000000,0,4190207,0,4194303,1,5000000,0,5000000,0\n\
+    5000000,0,5000000,0,5000000,0,5000000,0,4194302,1,4190206,0\n\
+    5000000,0,5000000,0,5000000,0,5000000,0,4190206,0,4194302,1\n";
+
+/// A table where greedy removal keeps too few, one where the bounds do not meet, one where two walks load one level,
+/// and one where the mean of the squares is too wide for a fraction.
 const HARDER: &[Indices] = &[
     (
         SPIDER,
         "observations 7 goods 7 places 0 0\n",
         [
             "kept 4 of 7",
-            "levels mean 3/14 to 1649267441667/7696581394432 exact",
-            "levels squares 3/28 to 824633720835/7696581394432 exact",
+            "levels mean 3/14 to 3/14 exact",
+            "levels squares 3/28 to 3/28 exact",
             "steps 3/7 to 3/7 exact",
         ],
     ),
@@ -198,8 +209,8 @@ const HARDER: &[Indices] = &[
         "observations 8 goods 8 places 0 0\n",
         [
             "kept 3 to 4 of 8",
-            "levels mean 1/4 to 2748779069445/8796093022208",
-            "levels squares 1/8 to 1374389534725/8796093022208",
+            "levels mean 1/4 to 5/16",
+            "levels squares 1/8 to 5/32",
             "steps 3/4 to 3/4 exact",
         ],
     ),
@@ -208,9 +219,19 @@ const HARDER: &[Indices] = &[
         "observations 3 goods 3 places 0 0\n",
         [
             "kept 2 of 3",
-            "levels mean 1/4 to 824633720833/3298534883328 exact",
-            "levels squares 3/16 to 618475290625/3298534883328 exact",
+            "levels mean 1/4 to 1/4 exact",
+            "levels squares 3/16 to 3/16 exact",
             "steps 5/12 to 5/12 exact",
+        ],
+    ),
+    (
+        COPRIME,
+        "observations 6 goods 6 places 0 0\n",
+        [
+            "kept 3 of 6",
+            "levels mean 2097153/4294967296 to 54043143988849664/110680306112652115959 exact",
+            "levels squares 1572865/3298534883328 to 3145733/6597069766656 exact",
+            "steps 1024/2097151 to 1024/2097151 exact",
         ],
     ),
 ];

@@ -57,9 +57,9 @@ const REPORT_OF_CONTRADICTION: &str = "observations 2 goods 2 places 0 0\n\
     violations garp 2 wgarp 2 warp 2 sarp 2 of 2\nviolating observations 2 of 2\n\
     efficiency 4/5 attained yes\nbelow 1 1\nabove 1 2 1\nat ranks 2 2\n\
     kept 1 of 2\nobservations 1\nranks 0\ngroups over 1\npairs 1 2 weight 1\n\
-    levels mean 219902325555/2199023255552 to 54975581389/549755813888 exact\nat 1 4/5\nranks 1 0\n\
+    levels mean 219902325555/2199023255552 to 1/10 exact\nat 1 4/5\nranks 1 0\n\
     cycles over 1\ncycle 1 2 1 weight 219902325555\n\
-    levels squares 43980465111/2199023255552 to 5497558139/274877906944 exact\nat 1 4/5\nranks 1 0\n\
+    levels squares 43980465111/2199023255552 to 1/50 exact\nat 1 4/5\nranks 1 0\n\
     cycles over 1\ncycle 1 2 1 weight 43980465111\n\
     steps 1/10 to 1/10 exact\nremoved 2 to 1\nranks 1 0\ncycles over 1\ncycle 1 2 1 weight 1\n\
     pump 1/5\ncycle 1 2 1\nvalues 0 0\n\
@@ -119,9 +119,9 @@ const REPORT_OF_THREE: &str = "observations 3 goods 3 places 0 0\n\
     violations garp 3 wgarp 0 warp 0 sarp 3 of 6\nviolating observations 3 of 3\n\
     efficiency 1/2 attained yes\nbelow 1 1 1\nabove 1 2 3 1\nat ranks 3 3 3\n\
     kept 2 of 3\nobservations 1 2\nranks 1 0\ngroups over 1\ncycle 1 2 3 1 weight 1\n\
-    levels mean 1/6 to 183251937963/1099511627776 exact\nat 1 1 1/2\nranks 2 1 0\n\
+    levels mean 1/6 to 1/6 exact\nat 1 1 1/2\nranks 2 1 0\n\
     cycles over 1\ncycle 1 2 3 1 weight 549755813888\n\
-    levels squares 1/12 to 274877906945/3298534883328 exact\nat 1 1 1/2\nranks 2 1 0\n\
+    levels squares 1/12 to 1/12 exact\nat 1 1 1/2\nranks 2 1 0\n\
     cycles over 1\ncycle 1 2 3 1 weight 274877906944\n\
     steps 1/6 to 1/6 exact\nremoved 3 to 1\nranks 2 1 0\ncycles over 1\ncycle 1 2 3 1 weight 1\n\
     pump 1/2\ncycle 1 2 3 1\nvalues 0 0 0\n\

@@ -10,8 +10,8 @@ two <- data.frame(p_a = 1:2, p_b = 2:1, q_a = 1:2, q_b = 2:1)
 of_two <- c(
   "observations 2 goods 2 places 0 0", "violations garp 2 wgarp 2 warp 2 sarp 2 of 2", "violating observations 2 of 2", "efficiency 4/5 attained yes",
   "below 1 1", "above 1 2 1", "at ranks 2 2", "kept 1 of 2", "observations 1", "ranks 0", "groups over 1", "pairs 1 2 weight 1",
-  "levels mean 219902325555/2199023255552 to 54975581389/549755813888 exact", "at 4/5 1", "ranks 0 1", "cycles over 1", "cycle 1 2 1 weight 219902325555",
-  "levels squares 43980465111/2199023255552 to 5497558139/274877906944 exact", "at 4/5 1", "ranks 0 1", "cycles over 1", "cycle 1 2 1 weight 43980465111",
+  "levels mean 219902325555/2199023255552 to 1/10 exact", "at 4/5 1", "ranks 0 1", "cycles over 1", "cycle 1 2 1 weight 219902325555",
+  "levels squares 43980465111/2199023255552 to 1/50 exact", "at 4/5 1", "ranks 0 1", "cycles over 1", "cycle 1 2 1 weight 43980465111",
   "steps 1/10 to 1/10 exact", "removed 1 to 2", "ranks 0 1", "cycles over 1", "cycle 1 2 1 weight 1", "pump 1/5", "cycle 1 2 1", "values 0 0",
   "quasilinear level 4/5", "cycle 1 2 1", "values 0 0", "homothetic level 219902325555/274877906944 to 879609302221/1099511627776", "cycle 1 2 1", "values 1 1"
 )
@@ -46,15 +46,15 @@ if (.Platform$OS.type != "windows") {
   f <- rp_fit(two, exe = exe)
   stopifnot(inherits(f, "rp_fit"), !f$garp, f$observations == 2, f$pairs == 2, identical(unname(f$violations), rep(2L, 5)))
   stopifnot(texts(f$efficiency) == "4/5", f$ccei == 0.8, f$attained, f$kept == 1, f$kept_most == 1, identical(f$drop, 2L))
-  stopifnot(f$levels_low <= revealed:::exact("1/10"), f$levels_high >= revealed:::exact("1/10"), identical(texts(f$levels), c("4/5", "1")))
-  stopifnot(near(as.double(f$squares_low), 0.02), near(as.double(f$squares_high), 0.02), texts(f$steps_low) == "1/10", texts(f$steps_high) == "1/10")
+  stopifnot(f$levels_low <= revealed:::exact("1/10"), texts(f$levels_high) == "1/10", identical(texts(f$levels), c("4/5", "1")))
+  stopifnot(near(as.double(f$squares_low), 0.02), texts(f$squares_high) == "1/50", texts(f$steps_low) == "1/10", texts(f$steps_high) == "1/10")
   stopifnot(identical(f$removed$observation, 1L), identical(f$removed$over, 2L), texts(f$pump) == "1/5", texts(f$quasilinear_level) == "4/5")
   stopifnot(all(f$exact), identical(names(f$exact), c("kept", "levels", "squares", "steps", "homothetic")), !length(f$reasons))
   stopifnot(identical(f$certificate, paste0(json(1), "\n")), rp_check(f, f, exe = exe)$accepted, rp_check(two, f$certificate, exe = exe)$items == 9)
   # numbers in columns, and the exact ones in another frame
   d <- as.data.frame(f)
   stopifnot(nrow(d) == 1, near(c(d$ccei, d$hm_low, d$hm_high, d$levels_low, d$levels_high, d$steps_high, d$pump), c(0.8, 0.5, 0.5, 0.1, 0.1, 0.1, 0.2)))
-  stopifnot(d$garp_share == 1, d$kept == 1, d$dropped == 1, d$violating == 2, d$open == "", d$reasons == "", d$levels_low < 0.1, d$levels_high > 0.1)
+  stopifnot(d$garp_share == 1, d$kept == 1, d$dropped == 1, d$violating == 2, d$open == "", d$reasons == "", d$levels_low < 0.1, d$levels_high == 0.1)
   stopifnot(vapply(d[c("ccei", "hm_low", "levels_high", "squares_high", "steps_high", "pump", "quasilinear_level", "homothetic_low")], is.double, TRUE))
   e <- as.data.frame(f, what = "exact")
   stopifnot(identical(names(e), names(d)), inherits(e$hm_low, "rp_exact"), texts(e$hm_low) == "1/2", texts(e$steps_high) == "1/10", texts(e$garp_share) == "1")
