@@ -1048,7 +1048,7 @@ test("the indices as papers call them, on the page and in a file; and none that 
   ]);
   const records = indexRecords(rows);
   assert.deepEqual(records[3], ["HM, share kept", "1/2", "0.500000", "1/2", "0.500000"]);
-  assert.deepEqual([records[4][2], records[4][4]], ["0.099999", "0.100001"]);
+  assert.deepEqual([records[4][2], records[4][4]], ["0.099999", "0.100000"]);
   const own = indexRows(parseFit(FIT_OF_TWO), true).map((it) => it.name);
   assert.deepEqual(own.filter((it) => ["MCI", "MPI, maximum", "quasilinear level"].includes(it)), []);
   assert.equal(own.length, rows.length - 3);
@@ -1064,9 +1064,9 @@ test("goodness of fit of a unit is in columns before those of an error, rounded 
     kept: "1",
     kept_most: "1",
     levels_low: "0.099999",
-    levels_high: "0.100001",
+    levels_high: "0.100000",
     squares_low: "0.019999",
-    squares_high: "0.020001",
+    squares_high: "0.020000",
     steps_low: "0.100000",
     steps_high: "0.100000",
   });
@@ -1078,7 +1078,7 @@ test("goodness of fit of a unit is in columns before those of an error, rounded 
   const [names, first] = tableRecords([row], "subject", FIT_COLUMNS);
   assert.equal(names.length, COLUMNS.length + FIT_COLUMNS.length);
   assert.deepEqual(names.slice(-4), ["steps_high", "fault", "record", "column"]);
-  assert.deepEqual([first[names.indexOf("kept")], first[names.indexOf("levels_high")]], ["1", "0.100001"]);
+  assert.deepEqual([first[names.indexOf("kept")], first[names.indexOf("levels_high")]], ["1", "0.100000"]);
 });
 
 test("what a checked certificate on goodness of fit proves, item by item", () => {
