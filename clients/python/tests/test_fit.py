@@ -157,7 +157,7 @@ class Reports(unittest.TestCase):
         self.assertEqual((fit.quasilinear_level, fit.homothetic_low, fit.homothetic_high, fit.homothetic_exact), (None, None, None, None))
         self.assertEqual(set(fit.reasons), {"quasilinear_level", "homothetic_level"})
         self.assertIn("HM 0.500000 to 1.000000 (kept 1 to 2 of 2, without 2)", repr(fit))
-        self.assertIn("AVI 0.000000 to 0.100001\n", repr(fit))
+        self.assertIn("AVI 0.000000 to 0.100000\n", repr(fit))
         self.assertIn("homothetic level none: rp-wide found no evidence of it", repr(fit))
         self.assertNotIn("None", repr(fit))
 
