@@ -9,7 +9,8 @@ with what is proved of it in short, where it has something to prove:
 
     *Numbers and files*. Proved: rows in one raw block that is used within bounds.
 
-One table has what each crate has, part by part. The other has what is proved, where crates with the same sentence share a row.
+One table has what each crate has, part by part. The other has what is proved, where crates with the same sentence share a row. Both
+have the order of crates.txt, where each part stands under its name, and no crate depends on a later one.
 """
 import glob
 import os
@@ -17,7 +18,8 @@ import re
 
 from shared import TOP
 
-PARTS = ["Numbers and files", "Definitions and laws", "Searches", "Checker", "Texts", "Top", "Tests"]
+PARTS = ["Numbers and files", "Definitions and laws", "Checker", "Texts", "Searches", "Whole results", "Top", "Tests"]
+LIST = "crates.txt"
 HEAD = re.compile(r"# (\w+)\n\n((?:[^#\n].*\n)+)\n\*([\w ]+)\*\.(?:\s+Proved:\s+((?:.+\n)+?))?(?:\n|\Z)")
 # The tables that are drawn: the document, and the row with which its table begins.
 ARCHITECTURE = "docs/dev/ARCHITECTURE.md"
@@ -45,8 +47,18 @@ def file_of(name):
 
 def names():
     """Returns the names of all crates, in the order of crates.txt."""
-    with open(f"{TOP}/crates.txt", encoding="utf-8") as it:
+    with open(f"{TOP}/{LIST}", encoding="utf-8") as it:
         return re.findall(r"(?m)^(\w+)[^:#\n]*:", it.read())
+
+
+def listed(own):
+    """Yields of each line of crates.txt with a crate its name, what it depends on, and the part under whose name it stands."""
+    part = None
+    for line in own.splitlines():
+        if line.removeprefix("# ") in PARTS:
+            part = line.removeprefix("# ")
+        elif found := re.match(r"(\w+)[^:#]*:([^#]*)", line):
+            yield found[1], found[2].split(), part
 
 
 def read(text):
@@ -95,6 +107,23 @@ def drawn(text):
     return {ARCHITECTURE: with_table(own, HAS, rows_of_parts(crates))}
 
 
+def out_of_order(text):
+    """Yields what stands in crates.txt otherwise than crates/*/README.md tell: parts, and crates that depend on later ones."""
+    lines = list(listed(text(LIST)))
+    later = {name for name, _, _ in lines}
+    headings = [part for part in re.findall(r"(?m)^# (.*)$", text(LIST)) if part in PARTS]
+    if headings != PARTS:
+        yield f"{LIST} has not the parts {', '.join(PARTS)}, in this order"
+    parts = {it.name: it.part for it in read(text)}
+    for name, below, part in lines:
+        later.discard(name)
+        if parts.get(name) != part:
+            yield f"{LIST} has {name} in another part than {file_of(name)}"
+        for it in below:
+            if it in later:
+                yield f"{LIST} has {name} before {it}, on which it depends"
+
+
 def resting_on_inner(text):
     """Yields the specs that rest on words for the inner functions of a crate, and are not for these themselves (docs/dev/ARCHITECTURE.md)."""
     for file in sorted(glob.glob("crates/*/specs/**/*.antt", root_dir=TOP, recursive=True)):
@@ -107,6 +136,7 @@ def wrong(text):
     """Yields what is wrong with the documents of the crates, with the tables, and with what specs rest on."""
     yield from resting_on_inner(text)
     try:
+        yield from out_of_order(text)
         told = drawn(text)
     except Unread as lacks:
         yield str(lacks)
