@@ -86,7 +86,7 @@ int32_t rp_answer_wide(
 /*
  * Answers the words of `rp-panel`: a row of verdicts for each household of a long file, or its bounds at new prices.
  *
- * The words are LONG [--id NAME] [--keep NAME].. [--pump] [--power DRAWS SEED] [--wide], or with bounds
+ * The words are LONG [--id NAME] [--keep NAME].. [--pump] [--power DRAWS SEED] [--intercepts] [--wide], or with bounds
  * LONG [--id NAME] [--keep NAME].. (--demand | --welfare) NEW [--wide], as docs/reference/rp-panel.md describes, and the files are LONG
  * and NEW, where it is named, under these names. The output is the table as comma-separated values. With RP_DONE there
  * may be told lines too, one for each column of the long file that is left out. Arguments, ownership, threads and

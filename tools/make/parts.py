@@ -56,7 +56,8 @@ def columns_table(found, *tables):
     if lacking:
         raise Unread(f"clients/words.json says nothing of the columns {', '.join(lacking)}")
     rows = "".join(f"| `{it}` | {found['column_words'][it]} |\n" for it in names)
-    return f"| Column | Content |\n|---|---|\n{rows}| any others | columns of `--keep` |\n"
+    last = "columns of `--keep`, then the three of `--intercepts`" if "verdicts" in tables else "columns of `--keep`"
+    return f"| Column | Content |\n|---|---|\n{rows}| any others | {last} |\n"
 
 
 def sizes_table(found):

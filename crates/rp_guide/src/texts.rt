@@ -22,6 +22,8 @@ pub(crate) const PANEL_PAGES: [(&[u8], &[u8]); 1] = [(
         --keep NAME         add this column, with the text of the first row of each unit\n\
         --pump              add the maximum money pump index\n\
         --power DRAWS SEED  add how many of DRAWS simulated data sets violate GARP\n\
+        --intercepts        the prices are exchanged intercepts of two goods: add what share of the offered\n\
+        \x20                   budgets was spent\n\
         --demand NEW        write bounds on demand at the prices of the file NEW instead\n\
         --welfare NEW       write bounds on the money metric at the prices of NEW instead\n\
         --wide              compute results as rp-wide does, which finds more of them\n\

@@ -1,1 +1,3 @@
+mod PlacesLemmas
 mod RowLemmas
+mod TextLemmas

@@ -1,1 +1,2 @@
+pub mod OfferedText
 pub mod PanelText

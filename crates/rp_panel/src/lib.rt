@@ -2,6 +2,7 @@
 //! that is refused for its id.
 #![tactic(auto)]
 
+mod offered;
 mod rows;
 
 pub use rows::write_panel;

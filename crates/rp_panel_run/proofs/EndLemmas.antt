@@ -9,6 +9,7 @@ use Rattle.rp_bound_rows.specs.declared.asked.BoundsAsked.{BoundsAsked}
 use Rattle.rp_bounds_panel.specs.BoundsText.{unnamed_row as bound_unnamed}
 use Rattle.rp_long.specs.Panels.{Panel}
 use Rattle.rp_long.specs.declared.fault.LongFault.{LongFault}
+use Rattle.rp_panel.specs.OfferedText.{columns_after}
 use Rattle.rp_panel.specs.PanelText.{unnamed_row}
 use Rattle.rp_rows.specs.RowText.{header_fields, line_of_row, panel_writer}
 use Rattle.rp_panel_run.specs.Endings.{AnswersWith, Contents, Files, IsRefusal, IsTextBy, IsTextOf, RefusesWith}
@@ -59,7 +60,7 @@ no_empty_record fields rest none =
 
 no_empty_by : (bounds : Option BoundsAsked) (a : Asking) (new : List ℕ) (panel : Panel) → IsTextBy bounds a new panel [] → ⊥
 no_empty_by None a new panel is =
-    no_empty_record (header_fields a.kept) (flat_map line_of_row (is.rows ++ map (unnamed_row (length a.kept)) panel.unnamed)) is.text_is
+    no_empty_record (header_fields (columns_after a.offered a.kept)) (flat_map line_of_row (is.rows ++ map (unnamed_row (length (columns_after a.offered a.kept))) panel.unnamed)) is.text_is
 no_empty_by (Some asked) a new panel is =
     no_empty_record (bound_header asked a.kept) (flat_map text_of_row (is.is_text.rows ++ map (bound_unnamed (length a.kept)) panel.unnamed)) is.is_text.text_is
 

@@ -24,6 +24,8 @@ use Rattle.rp_long.specs.Panels.{Household, Panel, denoted_panel, household_of, 
 use Rattle.rp_long.specs.declared.fault.LongFault.{LongFault}
 use Rattle.rp_num.specs.Fraction.{Fraction}
 use Rattle.rp_num.proofs.Lowest.{same_lowest}
+use Rattle.rp_offered.specs.declared.offered.Places.{Places}
+use Rattle.rp_panel.specs.OfferedText.{columns_after, places_asked}
 use Rattle.rp_panel.specs.PanelText.{AreRowsOf, IsPanelText, IsRowOfHousehold, unnamed_row}
 use Rattle.rp_fit.specs.MoneyPump.{HasPumpRatio, IsPumpIndex, PumpsAtMost, gain_from, spent_from}
 use Rattle.rp_power.specs.PowerCount.{IsPowerCount}
@@ -270,8 +272,8 @@ module _ (given : Observations → Homothetic → Type 0) (Same : Verdict → Ve
   found_same (Err fault) (FaultFound f) (VerdictsFound w) valid p q = absurd (cc q)
   found_same (Err fault) (FaultFound f) (FaultFound g) valid p q = cc (p ∙ sym q)
 
-  row_same : (household : Household) (row other : Row) → ((table : Observations) → household.table ≡ Ok table → IsTable table) → IsRowOfHousehold given asked household row → IsRowOfHousehold given asked household other → IsSameRow Same row other
-  row_same household row other valid p q = record {
+  row_same : (offered : Option Places) (household : Household) (row other : Row) → ((table : Observations) → household.table ≡ Ok table → IsTable table) → IsRowOfHousehold given asked offered household row → IsRowOfHousehold given asked offered household other → IsSameRow Same row other
+  row_same offered household row other valid p q = record {
     household = p.household_is ∙ sym q.household_is;
     kept = p.kept_are ∙ sym q.kept_are;
     found = found_same household.table row.found other.found valid p.found_is q.found_is;
@@ -283,14 +285,14 @@ module _ (given : Observations → Homothetic → Type 0) (Same : Verdict → Ve
   zipped (x ∷ xs) [] e each = absurd (omega (arith, e))
   zipped (x ∷ xs) (y ∷ ys) e each = (each 0 x (omega arith), zipped xs ys (omega (arith, e)) (λ h d l. each (suc h) d (omega (arith, l))))
 
-  rows_same : (households : List Household) (rows others : List Row) → ((h : ℕ) → h < length households → (table : Observations) → (slice_index_or households h nobody).table ≡ Ok table → IsTable table)
-      → AreRowsOf given asked households rows → AreRowsOf given asked households others → AllZip (IsSameRow Same) rows others
-  rows_same households rows others valid p q = zipped rows others (p.one_each ∙ sym q.one_each) each
+  rows_same : (offered : Option Places) (households : List Household) (rows others : List Row) → ((h : ℕ) → h < length households → (table : Observations) → (slice_index_or households h nobody).table ≡ Ok table → IsTable table)
+      → AreRowsOf given asked offered households rows → AreRowsOf given asked offered households others → AllZip (IsSameRow Same) rows others
+  rows_same offered households rows others valid p q = zipped rows others (p.one_each ∙ sym q.one_each) each
     where
       each : (h : ℕ) (d : Row) → h < length rows → IsSameRow Same (slice_index_or rows h d) (slice_index_or others h d)
       each h d l =
           let inside : h < length households = omega (arith, l, p.one_each) in
-          row_same (slice_index_or households h nobody) (slice_index_or rows h d) (slice_index_or others h d) (valid h inside) (p.each h d inside) (q.each h d inside)
+          row_same offered (slice_index_or households h nobody) (slice_index_or rows h d) (slice_index_or others h d) (valid h inside) (p.each h d inside) (q.each h d inside)
 
 -- ---- texts
 
@@ -346,26 +348,26 @@ told_alike given table v w p q = told v w _ _ no_falling p.of_table q.of_table
     no_falling : MeetsHomotheticTest (records_of table) (cost_of table) → (walk : List ℕ) × IsFallingCycle (records_of table) (cost_of table) walk → ⊥
     no_falling holds falling = let l = holds falling.0 falling.1.closed in let m = falling.1.falls in omega (arith, l, m)
 
-pub one_text : (id : List ℕ) (kept : List (List ℕ)) (records : List (List (List ℕ))) (asked : Asked) (panel : Panel) → denoted_panel id kept records ≡ Ok panel → (text other : List ℕ)
-    → IsPanelText given_as_stated asked kept panel text → IsPanelText given_as_stated asked kept panel other → text ≡ other
-one_text id kept records asked panel denoted text other p q =
-    let same = rows_equal p.rows q.rows (rows_same given_as_stated (λ v w. v ≡ w) stated_alike asked panel.households p.rows q.rows (household_within id kept records panel denoted) p.of_households q.of_households) in
-    p.text_is ∙ ap (λ (rows : List Row). rows_text kept (rows ++ map (unnamed_row (length kept)) panel.unnamed)) same ∙ sym q.text_is
+pub one_text : (id : List ℕ) (kept : List (List ℕ)) (records : List (List (List ℕ))) (asked : Asked) (offered : Bool) (panel : Panel) → denoted_panel id kept records ≡ Ok panel → (text other : List ℕ)
+    → IsPanelText given_as_stated asked offered kept panel text → IsPanelText given_as_stated asked offered kept panel other → text ≡ other
+one_text id kept records asked offered panel denoted text other p q =
+    let same = rows_equal p.rows q.rows (rows_same given_as_stated (λ v w. v ≡ w) stated_alike asked (places_asked offered panel.households) panel.households p.rows q.rows (household_within id kept records panel denoted) p.of_households q.of_households) in
+    p.text_is ∙ ap (λ (rows : List Row). rows_text (columns_after offered kept) (rows ++ map (unnamed_row (length (columns_after offered kept))) panel.unnamed)) same ∙ sym q.text_is
 
-pub one_verdict : (id : List ℕ) (kept : List (List ℕ)) (records : List (List (List ℕ))) (given : Observations → Homothetic → Type 0) (asked : Asked) (panel : Panel) → denoted_panel id kept records ≡ Ok panel → (text other : List ℕ)
-    → IsPanelText given asked kept panel text → IsPanelText given asked kept panel other → AreSameButWithheld kept text other
-one_verdict id kept records given asked panel denoted text other p q = record {
-  rows = p.rows ++ map (unnamed_row (length kept)) panel.unnamed;
-  other_rows = q.rows ++ map (unnamed_row (length kept)) panel.unnamed;
+pub one_verdict : (id : List ℕ) (kept : List (List ℕ)) (records : List (List (List ℕ))) (given : Observations → Homothetic → Type 0) (asked : Asked) (offered : Bool) (panel : Panel) → denoted_panel id kept records ≡ Ok panel → (text other : List ℕ)
+    → IsPanelText given asked offered kept panel text → IsPanelText given asked offered kept panel other → AreSameButWithheld (columns_after offered kept) text other
+one_verdict id kept records given asked offered panel denoted text other p q = record {
+  rows = p.rows ++ map (unnamed_row (length (columns_after offered kept))) panel.unnamed;
+  other_rows = q.rows ++ map (unnamed_row (length (columns_after offered kept))) panel.unnamed;
   text_is = p.text_is;
   other_is = q.text_is;
-  same = with_rest IsSameUnlessWithheld (λ v. inl refl) p.rows q.rows (map (unnamed_row (length kept)) panel.unnamed)
-      (rows_same given IsSameUnlessWithheld (told_alike given) asked panel.households p.rows q.rows (household_within id kept records panel denoted) p.of_households q.of_households);
+  same = with_rest IsSameUnlessWithheld (λ v. inl refl) p.rows q.rows (map (unnamed_row (length (columns_after offered kept))) panel.unnamed)
+      (rows_same given IsSameUnlessWithheld (told_alike given) asked (places_asked offered panel.households) panel.households p.rows q.rows (household_within id kept records panel denoted) p.of_households q.of_households);
 }
 
 -- ---- by the words
 
-by_bounds : (bounds : Option BoundsAsked) → bounds ≡ None → (a : Asking) (new : List ℕ) (panel : Panel) (text : List ℕ) → IsTextBy bounds a new panel text → IsPanelText (given_by a.wide) (more_asked a) a.kept panel text
+by_bounds : (bounds : Option BoundsAsked) → bounds ≡ None → (a : Asking) (new : List ℕ) (panel : Panel) (text : List ℕ) → IsTextBy bounds a new panel text → IsPanelText (given_by a.wide) (more_asked a) a.offered a.kept panel text
 by_bounds None none a new panel text is = is
 by_bounds (Some asked) none a new panel text is = absurd (cc none)
 
@@ -373,17 +375,17 @@ module _ (a : Asking) (held : Contents) (text told_text other other_told : List 
   same_panel : also.panel ≡ is.panel
   same_panel = let denoted = is.denoted in let again = also.denoted in cc
 
-  here : IsPanelText (given_by a.wide) (more_asked a) a.kept is.panel text
+  here : IsPanelText (given_by a.wide) (more_asked a) a.offered a.kept is.panel text
   here = by_bounds a.bounds none a held.new is.panel text is.answers.is_text
 
-  there : IsPanelText (given_by a.wide) (more_asked a) a.kept is.panel other
-  there = subst (λ (p : Panel). IsPanelText (given_by a.wide) (more_asked a) a.kept p other) same_panel (by_bounds a.bounds none a held.new also.panel other also.answers.is_text)
+  there : IsPanelText (given_by a.wide) (more_asked a) a.offered a.kept is.panel other
+  there = subst (λ (p : Panel). IsPanelText (given_by a.wide) (more_asked a) a.offered a.kept p other) same_panel (by_bounds a.bounds none a held.new also.panel other also.answers.is_text)
 
   pub panels_text : a.wide ≡ false → text ≡ other
   panels_text stated =
-      one_text (id_name a) a.kept (records_in held.long) (more_asked a) is.panel is.denoted text other
-      (subst (λ (wide : Bool). IsPanelText (given_by wide) (more_asked a) a.kept is.panel text) stated here)
-      (subst (λ (wide : Bool). IsPanelText (given_by wide) (more_asked a) a.kept is.panel other) stated there)
+      one_text (id_name a) a.kept (records_in held.long) (more_asked a) a.offered is.panel is.denoted text other
+      (subst (λ (wide : Bool). IsPanelText (given_by wide) (more_asked a) a.offered a.kept is.panel text) stated here)
+      (subst (λ (wide : Bool). IsPanelText (given_by wide) (more_asked a) a.offered a.kept is.panel other) stated there)
 
-  pub panels_verdicts : AreSameButWithheld a.kept text other
-  panels_verdicts = one_verdict (id_name a) a.kept (records_in held.long) (given_by a.wide) (more_asked a) is.panel is.denoted text other here there
+  pub panels_verdicts : AreSameButWithheld (columns_after a.offered a.kept) text other
+  panels_verdicts = one_verdict (id_name a) a.kept (records_in held.long) (given_by a.wide) (more_asked a) a.offered is.panel is.denoted text other here there

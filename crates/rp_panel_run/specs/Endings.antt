@@ -43,7 +43,7 @@ pub record AreBoundsAt (a : Asking) (asked : BoundsAsked) (panel : Panel) (text 
 
 -- the text for a panel: that of its rows, or of the bounds that are asked at new prices
 abbrev pub IsTextBy : Option BoundsAsked → Asking → List ℕ → Panel → List ℕ → Type 0
-IsTextBy None a new panel text = IsPanelText (given_by a.wide) (more_asked a) a.kept panel text
+IsTextBy None a new panel text = IsPanelText (given_by a.wide) (more_asked a) a.offered a.kept panel text
 IsTextBy (Some asked) a new panel text = AreBoundsAt a asked panel text new
 
 -- the text for a panel, and what is told of it: a line for each column that is left out

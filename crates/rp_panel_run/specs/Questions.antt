@@ -29,6 +29,7 @@ pub record Asking : Type 0 where
   pub id : List ℕ
   pub kept : List (List ℕ)
   pub pump : Bool
+  pub offered : Bool
   pub wide : Bool
   pub draws : ℕ
   pub seed : ℕ
@@ -43,6 +44,7 @@ nothing_read = record {
   id = [];
   kept = [];
   pump = false;
+  offered = false;
   wide = false;
   draws = 0;
   seed = 0;
@@ -63,6 +65,7 @@ awaiting next a = record {
   id = a.id;
   kept = a.kept;
   pump = a.pump;
+  offered = a.offered;
   wide = a.wide;
   draws = a.draws;
   seed = a.seed;
@@ -78,6 +81,7 @@ with_file a word = record {
   id = a.id;
   kept = a.kept;
   pump = a.pump;
+  offered = a.offered;
   wide = a.wide;
   draws = a.draws;
   seed = a.seed;
@@ -92,6 +96,7 @@ with_id a word = record {
   id = word;
   kept = a.kept;
   pump = a.pump;
+  offered = a.offered;
   wide = a.wide;
   draws = a.draws;
   seed = a.seed;
@@ -106,6 +111,7 @@ with_kept a word = record {
   id = a.id;
   kept = a.kept ++ word ∷ [];
   pump = a.pump;
+  offered = a.offered;
   wide = a.wide;
   draws = a.draws;
   seed = a.seed;
@@ -120,6 +126,22 @@ with_pump a = record {
   id = a.id;
   kept = a.kept;
   pump = true;
+  offered = a.offered;
+  wide = a.wide;
+  draws = a.draws;
+  seed = a.seed;
+  bounds = a.bounds;
+  new_prices = a.new_prices;
+  awaited = wait.Next;
+}
+
+abbrev pub with_intercepts : Asking → Asking
+with_intercepts a = record {
+  file = a.file;
+  id = a.id;
+  kept = a.kept;
+  pump = a.pump;
+  offered = true;
   wide = a.wide;
   draws = a.draws;
   seed = a.seed;
@@ -134,6 +156,7 @@ with_wide a = record {
   id = a.id;
   kept = a.kept;
   pump = a.pump;
+  offered = a.offered;
   wide = true;
   draws = a.draws;
   seed = a.seed;
@@ -148,6 +171,7 @@ with_draws a draws = record {
   id = a.id;
   kept = a.kept;
   pump = a.pump;
+  offered = a.offered;
   wide = a.wide;
   draws = draws;
   seed = a.seed;
@@ -162,6 +186,7 @@ with_seed a seed = record {
   id = a.id;
   kept = a.kept;
   pump = a.pump;
+  offered = a.offered;
   wide = a.wide;
   draws = a.draws;
   seed = seed;
@@ -176,6 +201,7 @@ with_bounds a asked word = record {
   id = a.id;
   kept = a.kept;
   pump = a.pump;
+  offered = a.offered;
   wide = a.wide;
   draws = a.draws;
   seed = a.seed;
@@ -188,6 +214,7 @@ with_bounds a asked word = record {
 abbrev pub named_option : List ℕ → Named
 named_option word =
     if bytes_eq word (codes "--pump") then named.Pump
+    else if bytes_eq word (codes "--intercepts") then named.Intercepts
     else if bytes_eq word (codes "--wide") then named.Wide
     else if bytes_eq word (codes "--id") then named.Id
     else if bytes_eq word (codes "--keep") then named.Keep
@@ -199,6 +226,7 @@ named_option word =
 -- with an option, each of which but `--keep` stands once, and of those of bounds one
 unfoldable pub option_taken : Asking → Named → Option Asking
 option_taken a named.Pump = if a.pump then None else Some (with_pump a)
+option_taken a named.Intercepts = if a.offered then None else Some (with_intercepts a)
 option_taken a named.Wide = if a.wide then None else Some (with_wide a)
 option_taken a named.Id = if length a.id == 0 then Some (awaiting wait.Id a) else None
 option_taken a named.Keep = Some (awaiting wait.Kept a)
@@ -245,7 +273,7 @@ is_at_next (wait.NewPrices asked) = false
 
 -- beside bounds nothing more is asked of the verdicts
 abbrev pub go_together : Asking → Bool
-go_together a = not (is_some a.bounds) || not (a.pump || not (a.draws == 0))
+go_together a = not (is_some a.bounds) || not (a.pump || (a.offered || not (a.draws == 0)))
 
 -- no word is missing, the long file is named, and the words that there are go together
 abbrev pub is_whole : Asking → Bool

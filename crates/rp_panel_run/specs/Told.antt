@@ -42,7 +42,7 @@ left_out_lines columns = flat_map left_out_line columns
 -- the line where the words are none that the program takes
 abbrev pub usage_line : List ℕ
 usage_line =
-    codes "usage: rp-panel LONG [--id NAME] [--keep NAME].. [--pump] [--power DRAWS SEED] [--wide]" ++ 10
+    codes "usage: rp-panel LONG [--id NAME] [--keep NAME].. [--pump] [--power DRAWS SEED] [--intercepts] [--wide]" ++ 10
     ∷ (codes "       rp-panel LONG [--id NAME] [--keep NAME].. (--demand | --welfare) NEW [--wide]" ++ 10 ∷ [])
 
 -- the line where the table could not be written whole, and where memory ran out

@@ -285,7 +285,7 @@ fn table_text(
     panel: &Households<'_>,
 ) -> Result<Vec<u8>, NoMemory>
     ensures { IfOk result (λ text. IsPanelText (given_by question.now.wide)
-        (more_asked question.now) question.now.kept panel.now text.items) }
+        (more_asked question.now) question.now.offered question.now.kept panel.now text.items) }
 {
     if question.is_wide() {
         return table_text_by::<Filled>(alloc, question, panel);
@@ -300,9 +300,15 @@ fn table_text_by<T: HomotheticTest>(
     panel: &Households<'_>,
 ) -> Result<Vec<u8>, NoMemory>
     ensures { IfOk result (λ text. IsPanelText T.given
-        (more_asked question.now) question.now.kept panel.now text.items) }
+        (more_asked question.now) question.now.offered question.now.kept panel.now text.items) }
 {
-    write_panel::<T>(alloc, question.more_asked(), question.kept(), panel)
+    write_panel::<T>(
+        alloc,
+        question.more_asked(),
+        question.is_offered(),
+        question.kept(),
+        panel,
+    )
 }
 
 /// Whether a fault is want of memory.

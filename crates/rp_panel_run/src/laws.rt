@@ -3,6 +3,7 @@
 ghost use Rattle.std.specs.Prelude.{◌≡◌, ℕ, List, [], ◌∷◌, None, Some, false};
 ghost use Rattle.rp_bound_rows.specs.declared.asked.BoundsAsked.{BoundsAsked};
 ghost use Rattle.rp_bounds_panel.specs.BoundsAlike.{AreSameButWithheld as AreSameBoundsButWithheld};
+ghost use Rattle.rp_panel.specs.OfferedText.{columns_after};
 ghost use Rattle.rp_panel_run.specs.Alike.{AreSameButWithheld};
 ghost use Rattle.rp_panel_run.specs.Endings.{AnswersWith, Contents, Files, IsRefusal, IsTextOf};
 ghost use Rattle.rp_panel_run.specs.Endings.{RefusesWith};
@@ -38,7 +39,7 @@ pub fn bytes_decide_the_verdicts()
         → IsTextOf a held other_text other → text ≡ other_text }
     ensures one_verdict { (a : Asking) (held : Contents) (text told other_text other : List ℕ)
         → a.bounds ≡ None → IsTextOf a held text told → IsTextOf a held other_text other
-        → AreSameButWithheld a.kept text other_text }
+        → AreSameButWithheld (columns_after a.offered a.kept) text other_text }
 {}
 
 /// The bytes of a long file and of a file of new prices decide the text of bounds: there is one text of the stated bounds.

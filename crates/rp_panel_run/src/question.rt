@@ -37,6 +37,7 @@ pub enum Awaited {
 #[derive(Clone, Copy, Debug, PartialEq, Eq)]
 pub enum Named {
     Pump,
+    Intercepts,
     Wide,
     Id,
     Keep,
@@ -52,6 +53,7 @@ pub(crate) struct Question<'a> {
     id: &'a str,
     kept: Vec<&'a [u8]>,
     pump: bool,
+    offered: bool,
     wide: bool,
     draws: u32,
     seed: u64,
@@ -71,6 +73,7 @@ impl<'a> Model for Question<'a> {
       id = q.id.now;
       kept = map (λ name. name.now) q.kept.items;
       pump = q.pump;
+      offered = q.offered;
       wide = q.wide;
       draws = q.draws;
       seed = q.seed;
@@ -90,6 +93,7 @@ impl<'a> Question<'a> {
             id: "",
             kept: Vec::new(alloc),
             pump: false,
+            offered: false,
             wide: false,
             draws: 0,
             seed: 0,
@@ -151,6 +155,7 @@ impl<'a> Question<'a> {
     {
         match option {
             Named::Pump => self.take_pump(),
+            Named::Intercepts => self.take_intercepts(),
             Named::Wide => self.take_wide(),
             Named::Id => self.await_id(),
             Named::Keep => {
@@ -172,6 +177,19 @@ impl<'a> Question<'a> {
             return false;
         }
         self.pump = true;
+        self.awaited = Awaited::Next;
+        true
+    }
+
+    /// Takes that prices are exchanged intercepts, and that it is asked what choices spent of the offered budgets.
+    fn take_intercepts(&mut self) -> bool
+        ensures { (if result then Some self.new else None)
+            ≡ (if self.old.offered then None else Some (Questions.with_intercepts self.old)) }
+    {
+        if self.offered {
+            return false;
+        }
+        self.offered = true;
         self.awaited = Awaited::Next;
         true
     }
@@ -300,7 +318,7 @@ impl<'a> Question<'a> {
         if self.bounds.is_none() {
             return true;
         }
-        !self.pump && self.draws == 0
+        !self.pump && !self.offered && self.draws == 0
     }
 
     /// The name of the long file.
@@ -361,6 +379,13 @@ impl<'a> Question<'a> {
         self.wide
     }
 
+    /// Whether it is asked what choices spent of the budgets that were offered.
+    pub(crate) fn is_offered(&self) -> bool
+        ensures { result ≡ self.now.offered }
+    {
+        self.offered
+    }
+
     /// What is asked of each household beside the verdicts.
     pub(crate) fn more_asked(&self) -> Asked
         ensures { result ≡ more_asked self.now }
@@ -391,6 +416,9 @@ fn named_option(word: &str) -> Named
 {
     if word == "--pump" {
         return Named::Pump;
+    }
+    if word == "--intercepts" {
+        return Named::Intercepts;
     }
     if word == "--wide" {
         return Named::Wide;

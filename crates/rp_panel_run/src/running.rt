@@ -22,7 +22,7 @@ use std::alloc::Global;
 
 /// What is told where the words are none that the program takes.
 pub(crate) const USAGE: &[u8] =
-    b"usage: rp-panel LONG [--id NAME] [--keep NAME].. [--pump] [--power DRAWS SEED] [--wide]\n\
+    b"usage: rp-panel LONG [--id NAME] [--keep NAME].. [--pump] [--power DRAWS SEED] [--intercepts] [--wide]\n\
     \x20      rp-panel LONG [--id NAME] [--keep NAME].. (--demand | --welfare) NEW [--wide]\n";
 
 /// Answers the words of a command line over the files of a desk: a row for each household of the long file that they

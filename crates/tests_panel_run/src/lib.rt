@@ -1,5 +1,5 @@
 //! Tests of `run_panel` and of the calls of panels: words and the files that they name, files that are refused or fail,
-//! columns that are left out, what `--wide` fills, bounds at new prices, and each ending.
+//! columns that are left out, what `--wide` fills, bounds at new prices, what choices spent of offered budgets, and each ending.
 #![tactic(auto)]
 
 #[cfg(test)]
@@ -12,6 +12,8 @@ mod files;
 mod helping;
 #[cfg(test)]
 mod household_faults;
+#[cfg(test)]
+mod intercepts;
 #[cfg(test)]
 mod names;
 #[cfg(test)]

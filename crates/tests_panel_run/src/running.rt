@@ -11,7 +11,7 @@ pub(crate) const HEADER: &str =
 
 /// What is told of words that are none that the program takes.
 pub(crate) const USAGE: &str =
-    "usage: rp-panel LONG [--id NAME] [--keep NAME].. [--pump] [--power DRAWS SEED] [--wide]\n\
+    "usage: rp-panel LONG [--id NAME] [--keep NAME].. [--pump] [--power DRAWS SEED] [--intercepts] [--wide]\n\
     \x20      rp-panel LONG [--id NAME] [--keep NAME].. (--demand | --welfare) NEW [--wide]\n";
 
 /// The room of each sink, in bytes.

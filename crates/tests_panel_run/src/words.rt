@@ -16,6 +16,8 @@ const REFUSED: &[&[&str]] = &[
     &["l.csv", "--Pump"],
     &["l.csv", "--pump", "--pump"],
     &["l.csv", "--wide", "--wide"],
+    &["l.csv", "--intercepts", "--intercepts"],
+    &["l.csv", "--intercepts", "--demand", "n.csv"],
     &["l.csv", "--id"],
     &["l.csv", "--id", ""],
     &["l.csv", "--id", "a", "--id", "b"],

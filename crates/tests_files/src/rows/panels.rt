@@ -48,7 +48,7 @@ const CASES: &[Case] = &[
 fn rows_of(alloc: Global, file: &str, kept: &[&[u8]]) -> Result<Vec<u8>, Fail> {
     let records = read_long_records(alloc, file.as_bytes())?;
     let panel = read_panel(alloc, &records, b"household", kept)?;
-    Ok(write_panel::<AsStated>(alloc, NOTHING, kept, &panel)?)
+    Ok(write_panel::<AsStated>(alloc, NOTHING, false, kept, &panel)?)
 }
 
 /// A long file has these rows.

@@ -14,5 +14,5 @@ loop-h-preserved g c =
     let l = c.loop-h in
     record {
       one_each = ap length c.in_ok-push.ensures.items ∙ length_push l.rows.items c.in_ok-row.row ∙ ap (λ n. n + 1) l.invariant.one_each;
-      each = one_more g.T.HomotheticTest.given c.args.asked c.args.panel.now l.h l.rows.items c.push.new.self.items c.in_ok-row.row l.invariant.one_each c.in_ok-push.ensures.items c.in_ok-row.ensures l.invariant.each;
+      each = one_more g.T.HomotheticTest.given c.args.asked c.args.offered c.args.panel.now l.h l.rows.items c.push.new.self.items c.in_ok-row.row l.invariant.one_each c.in_ok-push.ensures.items c.in_ok-row.ensures l.invariant.each;
     }

@@ -9,5 +9,5 @@ abbrev pub invariant-loop-h : goal.invariant-loop-h
 invariant-loop-h g l = record {
   one_each : length l.rows.items ≡ l.h;
   each : (h : ℕ) (row : Row) → h < l.h
-      → IsRowOfHousehold g.T.HomotheticTest.given l.asked (household_at l.panel h) (slice_index_or l.rows.items h row);
+      → IsRowOfHousehold g.T.HomotheticTest.given l.asked l.offered (household_at l.panel h) (slice_index_or l.rows.items h row);
 }

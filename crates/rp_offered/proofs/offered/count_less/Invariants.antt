@@ -1,0 +1,9 @@
+use Rattle.std.proofs.Common.{◌≡◌, ◌≤◌}
+use Rattle.rp_offered.specs.Offered.{costs_less, count_below, offer_at}
+use Rattle.rp_offered.proofs.offered.count_less.Given as goal
+
+abbrev pub invariant-loop-t : goal.invariant-loop-t
+invariant-loop-t l = record {
+  counted : l.count ≡ count_below l.t (λ t. costs_less l.places (offer_at l.places l.table t));
+  few : l.count ≤ l.t;
+}
