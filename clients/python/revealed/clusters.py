@@ -25,7 +25,7 @@ def records_of(frame: Any, by: Any, more: dict[str, Any]) -> Any:
     a part of a frame nobody knows which rows the others have, so the record of a fault counts the unit's own rows."""
     from .panels import answers
 
-    found = answers(frame, list(by) if isinstance(by, (list, tuple)) else [by], 1, False, **more)
+    found = answers(frame, list(by) if isinstance(by, (list, tuple)) else [by], 1, False, is_part=True, **more)
     for row in found:
         row.count_own()
     return found.frame()

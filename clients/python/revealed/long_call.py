@@ -17,9 +17,10 @@ from .catalogue import LIMITS
 from .faults import Unreadable
 
 LONG = "long.csv"
-# The columns of the table, behind which those stand whose texts are kept.
+# The columns of the table, behind which those stand whose texts are kept, and then those of budgets that were offered.
 COLUMNS = ["household", "observations", "goods", "garp", "efficiency", "efficiency_floor", "attained", "homothetic", "quasilinear"]
 COLUMNS += ["pump", "pump_floor", "power", "fault", "record", "column"]
+OFFERED = ["offered_least", "below_line", "over_line"]
 FAULT, RECORD = COLUMNS.index("fault"), COLUMNS.index("record")
 # A record that is refused for its id: there is none, or it has too many bytes.
 OF_ID = ("NoId", "LongId")
@@ -35,23 +36,32 @@ VERDICTS += [f"({SHARE})?", f"({FLOOR})?", r"([0-9]+/[0-9]+)?"]
 IS_VERDICTS = re.compile(",".join(f"(?:{it})" for it in VERDICTS))
 IS_FAULT = re.compile(r"[A-Z][A-Za-z]*,(?:[0-9]+)?,(?:[0-9]+)?")
 EMPTY = [""] * len(VERDICTS)
+IS_OFFERED = re.compile(f"{FLOOR},{COUNT},{COUNT}")
 
 
 class Asked(NamedTuple):
     """What is asked of each household: the name of the column of ids, the columns that are kept, and what stands beside the
-    verdicts; `power` is how many behaviours are drawn, and the seed."""
+    verdicts; `power` is how many behaviours are drawn, and the seed. With `intercepts` the prices are exchanged intercepts, and it
+    is asked what share of the offered budgets was spent."""
 
     id: str = "household"
     kept: Sequence[str] = ()
     pump: bool = False
     power: Optional[Sequence[int]] = None
     wide: bool = False
+    intercepts: bool = False
+
+    @property
+    def columns(self) -> list[str]:
+        """The names of the columns of the table."""
+        return [*COLUMNS, *self.kept, *(OFFERED if self.intercepts else [])]
 
     def words(self, file: str = LONG) -> list[str]:
         """Returns the words of the call over a long file."""
         found = [file, "--id", self.id, *(word for name in self.kept for word in ("--keep", name))]
         found += ["--pump"] if self.pump else []
         found += ["--power", *map(str, self.power)] if self.power else []
+        found += ["--intercepts"] if self.intercepts else []
         return found + (["--wide"] if self.wide else [])
 
 
@@ -75,6 +85,12 @@ def is_row(row: Sequence[str]) -> bool:
     return IS_VERDICTS.fullmatch(",".join(verdicts)) is not None and fault == ["", "", ""]
 
 
+def is_offered(row: Sequence[str]) -> bool:
+    """Whether a row ends with what was spent of the offered budgets, or with nothing of it where it has a fault."""
+    told = row[-len(OFFERED) :]
+    return not any(told) if row[FAULT] else IS_OFFERED.fullmatch(",".join(told)) is not None
+
+
 def answered(out: str, households: Sequence[str], unnamed: int, asked: Asked) -> list[list[str]]:
     """Returns the rows of an answer, one for each of these households, by their ids, and one for each of so many records that have
     none; raises Unreadable where it has any other."""
@@ -82,9 +98,11 @@ def answered(out: str, households: Sequence[str], unnamed: int, asked: Asked) ->
     if not rows or rows[0][: len(COLUMNS)] != COLUMNS:
         raise Unreadable(out, "it has no table of verdicts")
     del rows[0]
-    width = len(COLUMNS) + len(asked.kept)
+    width = len(asked.columns)
     if not all(len(row) == width and is_row(row) for row in rows):
         raise Unreadable(out, "a row has neither verdicts nor a fault")
+    if asked.intercepts and not all(map(is_offered, rows)):
+        raise Unreadable(out, "a row does not tell what was spent of the offered budgets")
     if [row[0] for row in rows] != [*households, *[""] * unnamed]:
         raise Unreadable(out, "its households are not those that were asked about")
     if any(row[FAULT] not in OF_ID for row in rows[len(households) :]):

@@ -8,7 +8,7 @@ rounding to the decimal places that the columns have explains that the share is 
 from __future__ import annotations
 
 from fractions import Fraction
-from typing import Any, NamedTuple, Sequence
+from typing import Any, Iterable, NamedTuple, Sequence
 
 from . import exact
 from .faults import BadData
@@ -61,7 +61,7 @@ def spent(lines: Sequence[Sequence[str]], bundles: Sequence[Sequence[str]], labe
     flat = [text for row in (*lines, *bundles) for text in row]
     if not flat or not all(map(exact.is_plain, flat)) or not all(text.strip("0.") for row in lines for text in row):
         return None
-    line_places, bundle_places = (max(len(text.partition(".")[2]) for row in side for text in row) for side in (lines, bundles))
+    line_places, bundle_places = (places_given(text for row in side for text in row) for side in (lines, bundles))
     # In halves of the last decimal place, so that what is rounded lies one unit to either side.
     own = [[units(text, line_places) for text in row] for row in lines]
     chosen = [[units(text, bundle_places) for text in row] for row in bundles]
@@ -81,6 +81,11 @@ def spent(lines: Sequence[Sequence[str]], bundles: Sequence[Sequence[str]], labe
         (a, b), (x, y) = own[over[0]], chosen[over[0]]
         raise Overspent(labels[over[0]], [*lines[over[0]], *bundles[over[0]]], names, Fraction(x * b + y * a, a * b) * scale, len(over))
     return Offered(len(own), below, Fraction(*least[0]) * scale, labels[least[1]])
+
+
+def places_given(texts: Iterable[str]) -> int:
+    """Returns the most decimal places of the texts that are numbers which the program takes; zeros at the end count."""
+    return max((min(len(text.partition(".")[2]), exact.MOST_PLACES) for text in texts if exact.is_plain(text)), default=0)
 
 
 def units(text: str, places: int) -> int:

@@ -17,7 +17,7 @@ from .catalogue import units_by
 from .commands import analyse, explains
 from .faults import BadData
 from .goodness import Fit, fit_of
-from .long_call import BLANKS, COLUMNS, OF_ID, line_of
+from .long_call import BLANKS, COLUMNS, OF_ID, OFFERED, line_of
 from .offered import Offered
 from .program import switch
 from .tables import OWN_MONEY, Table
@@ -59,13 +59,17 @@ class Row:
     `garp`, `homothetic`, `quasilinear` and `attained` are True or False; None if undetermined or not available. `efficiency`, `pump` and
     `power` are Fractions. Names that end in `_floor` have six decimal places, rounded down.
 
+    If the prices are intercepts, `offered_least` is the minimum share of the offered budget that a choice spent, with six decimal places,
+    rounded down. `below_line` and `over_line` count the choices that cost less and more than was offered by more than rounding explains.
+    Rounding is to the decimal places of all intercepts and of all quantities of the frame.
+
     `fault` is None, or the error, with the `record`, from 1, and the `column` of the frame. `refusal` is the error in words. `verdict` is
     the Verdict with its certificate, and `fit` the Fit; each is computed when you use it.
     """
 
     def __init__(self, key: Any, texts: Sequence[str], own: Household, refusal: Callable[[], Exception] | None = None) -> None:
         self.key = key
-        self.texts = dict(zip(COLUMNS, texts))
+        self.texts = dict(zip(own.panel.asked.columns, texts))
         self._refusal = refusal
         self._own = own
         self._verdict: Verdict | None = None
@@ -78,6 +82,8 @@ class Row:
         self.garp, self.attained, self.homothetic, self.quasilinear = (TRUTH.get(it[name]) for name in ("garp", "attained", "homothetic", "quasilinear"))
         self.efficiency, self.pump, self.power = (_fraction(it[name]) for name in ("efficiency", "pump", "power"))
         self.efficiency_floor, self.pump_floor = (_number(it[name]) for name in ("efficiency_floor", "pump_floor"))
+        self.offered_least = _number(it.get("offered_least", ""))
+        self.below_line, self.over_line = (_whole(it.get(name, "")) for name in ("below_line", "over_line"))
         self.fault: str | None = it["fault"] or None
 
     @cached_property
@@ -139,9 +145,9 @@ class Row:
             self.record = self._own.places.index(self.record - 1) + 1
             self.texts["record"] = str(self.record)
 
-    def values(self) -> list[Any]:
+    def values(self, names: Sequence[str] = COLUMNS[1:]) -> list[Any]:
         """Returns what the columns behind the key have, as values of Python."""
-        return [getattr(self, name) for name in COLUMNS[1:]]
+        return [getattr(self, name) for name in names]
 
     def __repr__(self) -> str:
         told = [f"{name} {self.texts[name]}" for name in COLUMNS[3:] if self.texts[name]]
@@ -256,7 +262,7 @@ class Panel(Units):
 
     def _repr_html_(self) -> str:
         """Returns what a notebook shows: what is said of the panel, and its first rows as a table."""
-        names = [*self.by, *(name for name in COLUMNS[1:] if any(row.texts[name] for row in self[:SHOWN]))]
+        names = [*self.by, *(name for name in self.columns if any(row.texts[name] for row in self[:SHOWN]))]
         heads = "".join(f"<th>{escape(str(name))}</th>" for name in names)
         rows = []
         for row in self[:SHOWN]:
@@ -266,20 +272,25 @@ class Panel(Units):
         said = "<br>".join(map(escape, self.said()))
         return f"<p>{said}</p><table><thead><tr>{heads}</tr></thead><tbody>{''.join(rows)}</tbody></table>{more}"
 
+    @property
+    def columns(self) -> list[str]:
+        """The names of the columns behind the key: those of each panel and, if prices are intercepts, those of offered budgets."""
+        return [*COLUMNS[1:], *(OFFERED if "intercepts" in self.asked else [])]
+
     def names(self) -> list[str]:
-        """Returns the names of the columns: those that identify the units, and those of each panel."""
-        return [*self.by, *COLUMNS[1:]]
+        """Returns the names of the columns: those that identify the units, and those behind them."""
+        return [*self.by, *self.columns]
 
     def records(self) -> list[dict[str, Any]]:
         """Returns a dictionary for each row: its key, and the values that a Row has under the names of the columns."""
-        return [dict(zip(self.names(), [*self.keys(row), *row.values()])) for row in self]
+        return [dict(zip(self.names(), [*self.keys(row), *row.values(self.columns)])) for row in self]
 
     def csv(self) -> bytes:
         """Returns the table as a CSV file, as `rp-panel` writes it, with the id columns in place of `household`."""
         lines = [line_of(list(map(str, self.names())))]
         for row in self:
             keys = ["" if exact.is_missing(key) else id_text(key).strip(BLANKS) for key in self.keys(row)]
-            lines.append(line_of([*keys, *(row.texts[name] for name in COLUMNS[1:])]))
+            lines.append(line_of([*keys, *(row.texts[name] for name in self.columns)]))
         return "".join(lines).encode("utf-8", "surrogateescape")
 
     def save_certificates(self, folder: Any) -> None:
@@ -307,7 +318,7 @@ class Panel(Units):
         pandas = self.pandas()
         columns = {name: [self.keys(row)[at] for row in self] for at, name in enumerate(self.by)}
         made = {name: pandas.Series(values, dtype=None if values else object) for name, values in columns.items()}
-        for name in COLUMNS[1:]:
+        for name in self.columns:
             kind = KINDS[name]
             values = [row.texts[name] or None if kind == "string" else getattr(row, name) for row in self]
             made[name] = pandas.array(values, dtype=kind)
@@ -365,7 +376,7 @@ class Panel(Units):
 NO_PANDAS = "a frame needs the package pandas, which is not here: pip install pandas; .records() has the same without it, and .text() and .latex() too"
 KINDS = {
     **dict.fromkeys(("garp", "attained", "homothetic", "quasilinear"), "boolean"),
-    **dict.fromkeys(("efficiency_floor", "pump_floor"), "Float64"),
+    **dict.fromkeys(("efficiency_floor", "pump_floor", "offered_least"), "Float64"),
     **dict.fromkeys(("efficiency", "pump", "power", "fault"), "string"),
-    **dict.fromkeys(("observations", "goods", "record", "column"), "Int64"),
+    **dict.fromkeys(("observations", "goods", "record", "column", "below_line", "over_line"), "Int64"),
 }

@@ -341,6 +341,31 @@ class OfferedBudgets(unittest.TestCase):
         self.assertIn("2 of u", str(caught.exception))
         self.assertIn("1 other choice does too", str(caught.exception))
 
+    def test_columns_of_a_panel(self):
+        # u: (3, 4) spends 7/10, which halves of a unit do not explain; v: (5, 4) spends 9/10, which they do
+        d = {"s": ["u", "u", "v"], **self.lines((5, 5), (3, 4), (5, 4))}
+        found = revealed.panel(d, "s", progress=False)
+        self.assertEqual([(row.offered_least, row.below_line, row.over_line) for row in found], [(0.7, 1, 0), (0.9, 0, 0)])
+        self.assertEqual([row["below_line"] for row in found.records()], [1, 0])
+        self.assertEqual(found.csv().decode().splitlines()[1].split(",")[-3:], ["0.700000", "1", "0"])
+        # a decimal place in another unit, or a zero behind the point, leaves less to rounding: 5.05/9.95 + 4.05/9.95 is below 1
+        for more in ("0.1", "0.0"):
+            two = {name: [*map(str, column), last] for (name, column), last in zip(d.items(), ("w", "10.0", "10.0", "9.9", more))}
+            found = revealed.panel(two, "s", progress=False)
+            self.assertEqual([row.below_line for row in found][:2], [1, 1])
+            self.assertEqual(sum(row.below_line for row in found), len(found.offered.below))
+        # each block of a panel of many units is told by the decimal places of all of them
+        many = {"s": [f"s{at}" for at in range(401)], **self.lines(*[(5, 4)] * 400, ("9.5", "0.5"), a="10.0", b="10.0")}
+        found = revealed.panel(many, "s", progress=False)
+        self.assertEqual({row.below_line for row in found[:400]}, {1})
+        self.assertEqual((found[400].offered_least, found[400].below_line), (1.0, 0))
+        # a unit with an error has none, and a unit may have the id of what is sent beside the units
+        bad = {**d, "s": ["places", "places", "v"], "i_x": [10, 10, 0]}
+        found = revealed.panel(bad, "s", progress=False)
+        self.assertEqual([(row.key, row.below_line, row.fault) for row in found], [("places", 1, None), ("v", None, "ZeroPrice")])
+        self.assertEqual(found[1].record, 3)
+        self.assertNotIn("offered_least", revealed.panel({"s": [1], "p_a": [1], "q_a": [1]}, "s", progress=False).names())
+
     def test_it_is_told_once(self):
         verdict = revealed.analyse(LINES)
         self.assertEqual(repr(verdict).count("offered budgets: all 2 choices lie on their lines, within rounding"), 1)

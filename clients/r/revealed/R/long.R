@@ -6,14 +6,17 @@ panel_columns <- c(
   "fault", "record", "column"
 )
 
+# The columns of what was spent of offered budgets, which come last if prices are exchanged intercepts.
+offered_columns <- c("offered_least", "below_line", "over_line")
+
 # So many units are asked about in one call at most.
 panel_block <- 200
 
 # Returns the words of the call over a long file.
-panel_words <- function(kind, seed, draws, wide) {
+panel_words <- function(kind, seed, draws, wide, intercepts = FALSE) {
   c(
     "long.csv", "--id", "household", if (kind == "pump") "--pump", if (kind == "power") c("--power", rev(power_words(seed, draws))),
-    if (wide) "--wide"
+    if (intercepts) "--intercepts", if (wide) "--wide"
   )
 }
 
@@ -70,10 +73,27 @@ long_sheet <- function(data, id, sides, forms) {
   if (isTRUE(sides$own_money) && !isTRUE(sides$is_drawn)) {
     several <- length(unique(ids[taken])) > 1
     calls <- if (several) paste(whole$labels, "of", ids) else whole$labels
+    whole$measure <- measure_of(cells, ids, levels)
     whole$offered <- offered_of(cells[2:1], cells[3:4], calls, c(whole$names[3:2], whole$names[4:5]))
   }
   c(whole, list(cells = cells, ids = vapply(rows, function(at) ids[at[1]], ""), rows = rows, is_named = rep(c(TRUE, FALSE), c(length(rows) - sum(!taken), sum(!taken)))))
 }
+
+# Returns the id and the line of a unit of one choice, whose numbers have the decimal places of all prices and of all quantities. It
+# stands in front of each block, since what rounding explains is told by the decimal places of a whole file.
+measure_of <- function(cells, ids, levels) {
+  id <- "places"
+  while (id %in% ids) id <- paste0(id, "'")
+  last <- function(columns) {
+    places <- places_given(unlist(cells[columns]))
+    if (places) paste0("1.", strrep("0", places - 1), "1") else "1"
+  }
+  fields <- c(id, rep(c(last(1:2), last(3:4)), each = 2), if (levels) limit_text("table.level_scale"))
+  list(id = id, line = paste(fields, collapse = ","))
+}
+
+# Returns the names of the columns of the answer about a long file.
+columns_answered <- function(long) c(panel_columns, if (!is.null(long$measure)) offered_columns)
 
 # Returns a function that reckons what another does when it is first asked, and keeps it.
 once <- function(reckon) {
@@ -151,7 +171,8 @@ panel_rows <- function(long, numbers, words, engine) {
 block_rows <- function(long, block, words, engine) {
   pooled <- vapply(block, function(at) long$is_named[at] && anyDuplicated(long$labels[long$rows[[at]]]) > 0, TRUE)
   asked <- block[!pooled]
-  found <- rep(list(stats::setNames(c("", rep("", 11), "Pooled", "", ""), panel_columns)), length(block))
+  columns <- columns_answered(long)
+  found <- rep(list(stats::setNames(ifelse(columns == "fault", "Pooled", ""), columns)), length(block))
   if (length(asked)) found[!pooled] <- called_rows(long, asked, words, engine)
   found
 }
@@ -166,11 +187,13 @@ lines_of_block <- function(long, block) {
 
 called_rows <- function(long, block, words, engine) {
   sent <- lines_of_block(long, block)
-  rows <- sent$rows
-  ran <- answer(words, list(long.csv = sent$lines), engine)
+  measure <- long$measure
+  rows <- c(if (!is.null(measure)) NA, sent$rows)
+  ran <- answer(words, list(long.csv = c(sent$lines[1], measure$line, sent$lines[-1])), engine)
   if (!ran$status %in% 0L) stop_at_refused(ran)
   named <- long$is_named[block]
-  table <- panel_answer(ran$out, long$ids[block][named], sum(!named))
+  table <- panel_answer(ran$out, c(measure$id, long$ids[block][named]), sum(!named), columns_answered(long))
+  table <- table[seq_len(nrow(table)) > length(measure$id), , drop = FALSE]
   with_record <- nzchar(table[, "record"])
   table[with_record, "record"] <- as.character(rows[as.integer(table[with_record, "record"])])
   lapply(seq_len(nrow(table)), function(at) table[at, ])
@@ -186,14 +209,19 @@ stop_at_refused <- function(ran, new = NULL) {
 
 # Returns the fields of a table that the call wrote, a row for each of these units and for each of so many records without one; stops
 # where it is any other.
-panel_answer <- function(text, ids, unnamed) {
+panel_answer <- function(text, ids, unnamed, columns = panel_columns) {
   fields <- csv_rows(text)
-  whole <- length(fields) > 0 && all(lengths(fields) == length(panel_columns)) && identical(fields[[1]], panel_columns)
+  whole <- length(fields) > 0 && all(lengths(fields) == length(columns)) && identical(fields[[1]], columns)
   if (!whole) stop(no_answer(text))
-  table <- do.call(rbind, c(list(matrix("", 0, length(panel_columns))), fields[-1]))
-  colnames(table) <- panel_columns
+  table <- do.call(rbind, c(list(matrix("", 0, length(columns))), fields[-1]))
+  colnames(table) <- columns
   empty <- rowSums(table[, 2:12, drop = FALSE] != "") == 0
   fine <- grepl("^[0-9]+,[0-9]+,(holds|violated),[0-9]+(/[0-9]+)?,[0-9]+[.][0-9]{6},(yes|no),(holds|violated|withheld),(holds|violated)$", apply(table[, 2:9, drop = FALSE], 1, paste, collapse = ","))
+  if (length(columns) > length(panel_columns)) {
+    spent <- apply(table[, offered_columns, drop = FALSE], 1, paste, collapse = ",")
+    empty <- empty & spent == ",,"
+    fine <- fine & grepl("^[0-9]+[.][0-9]{6},[0-9]+,[0-9]+$", spent)
+  }
   is_row <- ifelse(table[, "fault"] != "", empty, fine)
   is_told <- identical(unname(table[, 1]), c(ids, rep("", unnamed)))
   last <- table[nrow(table) + 1 - seq_len(unnamed), "fault"]

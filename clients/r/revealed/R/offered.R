@@ -9,7 +9,7 @@
 offered_of <- function(lines, bundles, labels, names) {
   texts <- c(lines, bundles)
   if (!length(texts[[1]]) || !all(vapply(texts, function(it) all(grepl(plain, it, useBytes = TRUE)), TRUE))) return(NULL)
-  half <- function(side) 0.5 * 10^-max(nchar(ifelse(grepl(".", unlist(side), fixed = TRUE), sub("^[^.]*[.]", "", unlist(side)), "")))
+  half <- function(side) 0.5 * 10^-places_given(unlist(side))
   of_line <- half(lines)
   of_bundle <- half(bundles)
   intercepts <- lapply(lines, as.numeric)
@@ -24,6 +24,12 @@ offered_of <- function(lines, bundles, labels, names) {
   if (length(over)) stop(overspent(over, share, texts, labels, names))
   at <- which.min(share)
   list(rows = length(share), below = labels[!narrow & most < 1], least = share[at], at = labels[at])
+}
+
+# Returns the most decimal places of the texts that are numbers which the program takes; zeros at the end count.
+places_given <- function(texts) {
+  own <- texts[grepl(plain, texts, useBytes = TRUE)]
+  min(max(nchar(ifelse(grepl(".", own, fixed = TRUE), sub("^[^.]*[.]", "", own), "")), 0), most_places())
 }
 
 overspent <- function(over, share, texts, labels, names) {

@@ -20,12 +20,12 @@ rp_panel <- function(data, by = id, ask = c("test", "pump", "power"), decimals =
     stop(refused("OwnLevels", hint = plain_hint("OwnLevels")))
   }
   if (kind == "pump" && sides$own_money) bad_data("the money pump: ", own_money)
-  words <- panel_words(kind, seed, draws, wide)
+  words <- panel_words(kind, seed, draws, wide, sides$own_money && !is_drawn)
   long <- long_sheet(data, id, sides, forms)
   engine <- panel_engine(exe)
   found <- rows_in_parallel(long, function(numbers) panel_rows(long, numbers, words, engine), workers, progress)
   keys <- keys_of(long, data, id)
-  texts <- do.call(rbind, c(list(matrix("", 0, length(panel_columns), dimnames = list(NULL, panel_columns))), found))
+  texts <- do.call(rbind, c(list(matrix("", 0, length(columns_answered(long)), dimnames = list(NULL, columns_answered(long)))), found))
   # Of intercepts exchanged this test tells nothing: the call says what is so of the prices that it was given.
   if (sides$own_money) texts[, "quasilinear"] <- ""
   refusal <- function(at) panel_refusal(long, texts[at, ], long$rows[[at]], data)
@@ -102,7 +102,7 @@ panel_sides <- function(data, id, levels = NULL) {
   if (!is.character(id) || !length(id)) bad_data("by names the column, or the columns, that tell the units apart")
   absent <- setdiff(id, names(data))
   if (length(absent)) bad_data("by: there is no column ", quoted(absent[1]), "; found: ", listed(names(data)))
-  taken <- intersect(id, panel_columns[-1])
+  taken <- intersect(id, c(panel_columns[-1], offered_columns))
   if (length(taken)) bad_data("by: the answer has a column ", quoted(taken[1]), " of its own; give the column another name")
   rest <- as.data.frame(unclass(as.list(data)[!names(data) %in% id]), optional = TRUE, stringsAsFactors = FALSE)
   sides <- sides_of(rest, in_panel = TRUE)
@@ -178,7 +178,10 @@ panel_frame <- function(own) {
     list(efficiency_exact = share("efficiency"), efficiency_floor = floor("efficiency_floor"), attained = truth("attained", "yes", "no")),
     list(homothetic = truth("homothetic", "holds", "violated"), quasilinear = truth("quasilinear", "holds", "violated")),
     beside("pump", share("pump")), list(pump_floor = floor("pump_floor")), beside("power", share("power")),
-    list(fault = text("fault"), record = whole("record"), column = whole("column"))
+    list(fault = text("fault"), record = whole("record"), column = whole("column")),
+    if ("offered_least" %in% colnames(own$texts)) {
+      list(offered_least = floor("offered_least"), below_line = whole("below_line"), over_line = whole("over_line"))
+    }
   ))
 }
 

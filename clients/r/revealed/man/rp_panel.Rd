@@ -57,6 +57,10 @@ An \code{rp_panel}: a data frame with a row for each unit, in the order of first
 \item{pump, pump_exact, pump_floor}{if requested, the maximum money pump index in the same three forms.}
 \item{power, power_exact}{if requested, the share of random behaviours that violate GARP.}
 \item{fault, record, column}{the error, empty without one, with the row and the column of \code{data}.}
+\item{offered_least}{with intercepts only, the minimum share of the offered budget that a choice spent, rounded down to six decimal
+places.}
+\item{below_line, over_line}{with intercepts only, the number of choices that cost less, and more, than was offered by more than
+rounding explains. The decimal places are those of all intercepts and of all quantities of \code{data}.}
 
 Beside its columns the result has \code{x$keys}, a data frame of \code{by}, and \code{x$texts}, a matrix of the fields that the
 program writes. The list \code{x$refusals} has, for each unit, \code{NULL} or the error in words, a condition of class

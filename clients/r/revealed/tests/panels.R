@@ -55,6 +55,19 @@ stopifnot(startsWith(said[[1]], "town 'a', year '1': rows 1 and 2 are both calle
 lines <- data.frame(s = c(1, 1), i_x = c("87.13", "45.50"), i_y = c("33.61", "62.04"), q_x = c("43.2", "20.1"), q_y = c("16.95", "34.63"))
 found <- rp_panel(lines, "s", workers = 1)
 stopifnot(is.na(found$quasilinear), found$texts[, "quasilinear"] == "", !any(grepl("violated|holds", grep("quasilinear", capture.output(print(found)), value = TRUE))))
+# what was spent of offered budgets, by hand: from x + y <= 10, (3, 4) spends 7/10, which halves of a unit do not explain, and (5, 4) 9/10,
+# which they do; not so beside numbers with a decimal place, since 5.05/9.95 + 4.05/9.95 is below 1
+lines <- data.frame(s = c("u", "u", "v"), i_x = 10, i_y = 10, q_x = c(5, 3, 5), q_y = c(5, 4, 4))
+found <- as.data.frame(rp_panel(lines, "s", workers = 1))
+stopifnot(identical(found$offered_least, c(0.7, 0.9)), identical(found$below_line, 1:0), identical(found$over_line, c(0L, 0L)))
+finer <- rbind(lines, data.frame(s = "w", i_x = 9.9, i_y = 10, q_x = 9.9, q_y = 0.1))
+stopifnot(identical(as.data.frame(rp_panel(finer, "s", workers = 1))$below_line[1:2], c(1L, 1L)))
+many <- rbind(data.frame(s = paste0("s", 1:400), i_x = 9.9, i_y = 10, q_x = 5, q_y = 4), finer[4, ])
+stopifnot(identical(as.data.frame(rp_panel(many, "s", workers = 1))$below_line, c(rep(1L, 400), 0L)))
+bad <- transform(lines, s = c("places", "places", "v"), i_x = c(10, 10, 0))
+found <- as.data.frame(rp_panel(bad, "s", workers = 1))
+stopifnot(identical(found$below_line, c(1L, NA)), identical(found$fault, c("", "ZeroPrice")), identical(found$record, c(NA, 3L)))
+stopifnot(!"offered_least" %in% names(panel(c("A", "B"))))
 
 # the same word in each language: by, units, decimals; and subjects are no households
 people <- data.frame(subject = c("a", "a", "b", "b", "c"), p_x = c(1, 2, 1, 2, 0), p_y = c(2, 1, 2, 1, 1), q_x = c(1, 2, 2, 1, 1), q_y = c(2, 1, 1, 2, 1))
