@@ -35,7 +35,7 @@ _rp_panel() {
   COMPREPLY=()
   if [[ $word == -* ]]; then
     # options of panels: made by tools/make/catalogue
-    mapfile -t COMPREPLY < <(compgen -W "--id --keep --pump --power --demand --welfare --wide --help --version" -- "$word")
+    mapfile -t COMPREPLY < <(compgen -W "--id --keep --pump --power --intercepts --demand --welfare --wide --help --version" -- "$word")
     # end of options of panels
   elif [[ $before != --id && $before != --keep && $before != --power ]]; then
     compopt -o filenames 2>/dev/null

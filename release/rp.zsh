@@ -27,6 +27,7 @@ _rp_panel() {
     '*--keep[add this column, with the text of the first row of each unit]:NAME: ' \
     '--pump[add the maximum money pump index]' \
     '--power[add how many of DRAWS simulated data sets violate GARP]:DRAWS: :SEED: ' \
+    '--intercepts[the prices are exchanged intercepts of two goods: add what share of the offered]' \
     '--demand[write bounds on demand at the prices of the file NEW instead]:NEW:_files' \
     '--welfare[write bounds on the money metric at the prices of NEW instead]:NEW:_files' \
     '--wide[compute results as rp-wide does, which finds more of them]' \
