@@ -390,7 +390,7 @@ lower_settled : (p : PatchList) (weights front list : List ℕ) (k : ℕ) (light
 lower_settled p weights front list k light after l so_far m before = no_lighter p weights (front ++ slice_index list m ∷ []) light.weight after.weight (so_far m before) l
 
 -- the patch at the next place is settled too
-pub settled_more : (p : PatchList) (weights front list : List ℕ) (k : ℕ) (light after : Lightest) → ¬ AreSpent light.steps → after.weight ≤ light.weight → IsSettledBelow p weights front list k light → AreSpent after.steps ⊎ NoneIsLighter p weights (front ++ slice_index list k ∷ []) after.weight → IsSettledBelow p weights front list (k + 1) after
+pub settled_more : (p : PatchList) (weights front list : List ℕ) (k : ℕ) (light after : Lightest) → ¬ AreSpent light.most light.steps → after.weight ≤ light.weight → IsSettledBelow p weights front list k light → AreSpent after.most after.steps ⊎ NoneIsLighter p weights (front ++ slice_index list k ∷ []) after.weight → IsSettledBelow p weights front list (k + 1) after
 settled_more p weights front list k light after left lower so_far here = elim here [
   | inl spent ↦ inl spent
   | inr none ↦ elim so_far [

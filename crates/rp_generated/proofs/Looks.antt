@@ -1,11 +1,10 @@
 -- What a search looks at: each step is a look at a patch after a beginning, and looks differ, since two of them differ in
 -- the patch of the budget at which they part, or in how many patches they have.
 use Rattle.std.proofs.lemmas.Bool.{cases_lt}
-use Rattle.std.proofs.Common.{inl, inr, ◌⊎◌, ◌≡◌, ◌≢◌, ℕ, zero, suc, ◌+◌, ◌*◌, ◌<◌, ◌≤◌, List, [], ◌∷◌, ◌++◌, All, length, length-append, slice_index, ap, refl, sym, subst, ◌∙◌, arith}
+use Rattle.std.proofs.Common.{inl, inr, ◌⊎◌, ◌≡◌, ◌≢◌, ℕ, zero, suc, ◌+◌, ◌<◌, ◌≤◌, List, [], ◌∷◌, ◌++◌, All, length, length-append, slice_index, ap, refl, sym, subst, ◌∙◌, arith}
 use Rattle.std.specs.List.{AllPairs, insert}
 use Rattle.std.specs.Prelude.{⊤, IfOk, Result, Ok, Err}
 use Rattle.std.proofs.lemmas.List.Sums.{sum_by-cons}
-use Rattle.rp_limits.specs.declared.generated.TheConstants.{STEPS}
 use Rattle.rp_patch.specs.PartialTypes.{Begins, IsPartialType, taken_in}
 use Rattle.rp_patch.specs.Patches.{PatchList, budget_at}
 use Rattle.rp_patch.specs.declared.partial_type.PartialType.{PartialType}
@@ -272,83 +271,86 @@ is_search p front from to had has under = record {
 }
 
 -- one search more
-pub search_made : (p : PatchList) (most made more had has : ℕ) (Also Next : Searches → Type 0) (so_far : WereMadeIn p most made Also) (under : LookedUnder p [] made more had has) → 2 * more ≤ STEPS
-    → (Also so_far.searches → Next (under.looks ∷ so_far.searches)) → WereMadeIn p (most + 1) more Next
-search_made p most made more had has Also Next so_far under half so = record {
+pub search_made : (p : PatchList) (most many made more had has : ℕ) (Also Next : Searches → Type 0) (so_far : WereMadeIn p most many made Also) (under : LookedUnder p [] made more had has) → more ≤ most
+    → (Also so_far.searches → Next (under.looks ∷ so_far.searches)) → WereMadeIn p most (many + 1) more Next
+search_made p most many made more had has Also Next so_far under within so = record {
   searches = under.looks ∷ so_far.searches;
   few = let l = so_far.few in omega (arith, l);
   each = (is_search p [] made more had has under, so_far.each);
   looks = let e = sum_by-cons (λ (looks : List (List ℕ)). length looks) under.looks so_far.searches in let a = so_far.looks in let b = under.count in omega (arith, e, a, b);
-  half = half;
+  within = within;
   also = so so_far.also;
 }
 
-no_search : (p : PatchList) → WereMadeIn p 0 0 (λ searches. searches ≡ [])
-no_search p = record { searches = []; few = omega arith; each = tt; looks = refl; half = omega arith; also = refl }
+no_search : (p : PatchList) (most : ℕ) → WereMadeIn p most 0 0 (λ searches. searches ≡ [])
+no_search p most = record { searches = []; few = omega arith; each = tt; looks = refl; within = omega arith; also = refl }
 
-more_searches : (p : PatchList) (most more made : ℕ) (Also Next : Searches → Type 0) → most ≤ more → ((searches : Searches) → Also searches → Next searches) → WereMadeIn p most made Also → WereMadeIn p more made Next
-more_searches p most more made Also Next l so is = record { searches = is.searches; few = let few = is.few in omega (arith, few, l); each = is.each; looks = is.looks; half = is.half; also = so is.searches is.also }
+more_searches : (p : PatchList) (most many more made : ℕ) (Also Next : Searches → Type 0) → many ≤ more → ((searches : Searches) → Also searches → Next searches) → WereMadeIn p most many made Also → WereMadeIn p most more made Next
+more_searches p most many more made Also Next l so is = record { searches = is.searches; few = let few = is.few in omega (arith, few, l); each = is.each; looks = is.looks; within = is.within; also = so is.searches is.also }
 
 found_type : (p : PatchList) (from to has : ℕ) → 1 ≤ p.budgets → (under : LookedUnder p [] from to 0 has) → 0 < has → HasFound p under.looks
 found_type p from to has some under more = elim (under.found more) [ inl whole ↦ (let e = whole.0.one_each in absurd (omega (arith, e, some))) | inr found ↦ found ]
 
 -- the search with prices is the only one
-pub one_search : (p : PatchList) (light : Lightest) → 1 ≤ p.budgets → LookedFrom p 0 light → 2 * light.steps ≤ STEPS → (length light.types.items ≡ 0 → AreSpent light.steps ⊎ HasNoRationalType p) → AreFirst p light
-one_search p light some under half decided = record {
-  made = more_searches p 1 2 light.steps _ _ (omega arith) (λ searches also. also)
-      (search_made p 0 0 light.steps 0 (length light.types.items) (λ searches. searches ≡ []) (λ searches. 0 < length light.types.items → SomeHasFound p searches) (no_search p) under half
+pub one_search : (p : PatchList) (most : ℕ) (light : Lightest) → 1 ≤ p.budgets → LookedFrom p 0 light → light.steps ≤ most → (length light.types.items ≡ 0 → AreSpent most light.steps ⊎ HasNoRationalType p) → AreFirst p most light
+one_search p most light some under within decided = record {
+  made = more_searches p most 1 2 light.steps _ _ (omega arith) (λ searches also. also)
+      (search_made p most 0 0 light.steps 0 (length light.types.items) (λ searches. searches ≡ []) (λ searches. 0 < length light.types.items → SomeHasFound p searches) (no_search p most) under within
       (λ none more. inl (found_type p 0 light.steps (length light.types.items) some under more)));
   decided = decided;
 }
 
 -- and that which leaves out nothing comes after it
-pub two_searches : (p : PatchList) (first light : Lightest) → 1 ≤ p.budgets → LookedFrom p 0 first → 2 * first.steps ≤ STEPS → LookedFrom p first.steps light → 2 * light.steps ≤ STEPS → (length light.types.items ≡ 0 → AreSpent light.steps ⊎ HasNoRationalType p) → AreFirst p light
-two_searches p first light some before before_half under half decided = record {
-  made = search_made p 1 first.steps light.steps 0 (length light.types.items) (λ searches. ⊤) (λ searches. 0 < length light.types.items → SomeHasFound p searches)
-      (search_made p 0 0 first.steps 0 (length first.types.items) (λ searches. searches ≡ []) (λ searches. ⊤) (no_search p) before before_half (λ none. tt)) under half
+pub two_searches : (p : PatchList) (most : ℕ) (first light : Lightest) → 1 ≤ p.budgets → LookedFrom p 0 first → first.steps ≤ most → LookedFrom p first.steps light → light.steps ≤ most → (length light.types.items ≡ 0 → AreSpent most light.steps ⊎ HasNoRationalType p) → AreFirst p most light
+two_searches p most first light some before before_within under within decided = record {
+  made = search_made p most 1 first.steps light.steps 0 (length light.types.items) (λ searches. ⊤) (λ searches. 0 < length light.types.items → SomeHasFound p searches)
+      (search_made p most 0 0 first.steps 0 (length first.types.items) (λ searches. searches ≡ []) (λ searches. ⊤) (no_search p most) before before_within (λ none. tt)) under within
       (λ none more. inl (found_type p first.steps light.steps (length light.types.items) some under more));
   decided = decided;
 }
 
-no_type : (p : PatchList) (light : Lightest) → IsDecided p [] light → length light.types.items ≡ 0 → AreSpent light.steps ⊎ HasNoRationalType p
-no_type p light decided none = elim (decided none) [ inl spent ↦ inl spent | inr lacking ↦ inr (λ type rational. lacking type rational tt) ]
+no_type : (p : PatchList) (most : ℕ) (light : Lightest) → light.most ≡ most → IsDecided p [] light → length light.types.items ≡ 0 → AreSpent most light.steps ⊎ HasNoRationalType p
+no_type p most light same decided none = elim (decided none) [ inl spent ↦ inl (spent ∙ same) | inr lacking ↦ inr (λ type rational. lacking type rational tt) ]
+
+steps_within : (most : ℕ) (light : Lightest) → light.most ≡ most → light.steps ≤ most
+steps_within most light same = let few = light.few in omega (arith, few, same)
 
 -- the search that leaves out nothing is the only one
-pub plain_alone : {E : Type 0} (p : PatchList) (r : Result Lightest E) → 1 ≤ p.budgets → IfOk r (LookedFrom p 0) → IfOk r (λ light. 2 * light.steps ≤ STEPS) → IfOk r (IsDecided p []) → IfOk r (AreFirst p)
-plain_alone p (Ok light) some under half decided = one_search p light some under half (no_type p light decided)
-plain_alone p (Err e) some under half decided = tt
+pub plain_alone : {E : Type 0} (p : PatchList) (most : ℕ) (r : Result Lightest E) → 1 ≤ p.budgets → IfOk r (LookedFrom p 0) → IfOk r (λ light. light.most ≡ most) → IfOk r (IsDecided p []) → IfOk r (AreFirst p most)
+plain_alone p most (Ok light) some under same decided = one_search p most light some under (steps_within most light same) (no_type p most light same decided)
+plain_alone p most (Err e) some under same decided = tt
 
-pub plain_after : {E : Type 0} (p : PatchList) (first : Lightest) (r : Result Lightest E) → 1 ≤ p.budgets → LookedFrom p 0 first → 2 * first.steps ≤ STEPS → IfOk r (LookedFrom p first.steps) → IfOk r (λ light. 2 * light.steps ≤ STEPS) → IfOk r (IsDecided p []) → IfOk r (AreFirst p)
-plain_after p first (Ok light) some before before_half under half decided = two_searches p first light some before before_half under half (no_type p light decided)
-plain_after p first (Err e) some before before_half under half decided = tt
+pub plain_after : {E : Type 0} (p : PatchList) (most : ℕ) (first : Lightest) (r : Result Lightest E) → 1 ≤ p.budgets → LookedFrom p 0 first → first.steps ≤ most → IfOk r (LookedFrom p first.steps) → IfOk r (λ light. light.most ≡ most) → IfOk r (IsDecided p []) → IfOk r (AreFirst p most)
+plain_after p most first (Ok light) some before within under same decided = two_searches p most first light some before within under (steps_within most light same) (no_type p most light same decided)
+plain_after p most first (Err e) some before within under same decided = tt
 
-pub begun_by : (p : PatchList) (light : Lightest) → AreFirst p light → 0 < length light.types.items → WereMadeIn p 2 light.steps (SomeHasFound p)
-begun_by p light first more = more_searches p 2 2 light.steps _ (SomeHasFound p) (omega arith) (λ searches also. also more) first.made
+pub begun_by : (p : PatchList) (most : ℕ) (light : Lightest) → AreFirst p most light → 0 < length light.types.items → WereMadeIn p most 2 light.steps (SomeHasFound p)
+begun_by p most light first more = more_searches p most 2 2 light.steps _ (SomeHasFound p) (omega arith) (λ searches also. also more) first.made
 
-pub round_made : (p : PatchList) (rounds made more has : ℕ) → WereMadeIn p rounds made (SomeHasFound p) → LookedUnder p [] made more 0 has → 2 * more ≤ STEPS → WereMadeIn p (rounds + 1) more (SomeHasFound p)
-round_made p rounds made more has so_far under half = search_made p rounds made more 0 has (SomeHasFound p) (SomeHasFound p) so_far under half (λ found. inr found)
+pub round_made : (p : PatchList) (most rounds made more has : ℕ) → WereMadeIn p most rounds made (SomeHasFound p) → LookedUnder p [] made more 0 has → more ≤ most → WereMadeIn p most (rounds + 1) more (SomeHasFound p)
+round_made p most rounds made more has so_far under within = search_made p most rounds made more 0 has (SomeHasFound p) (SomeHasFound p) so_far under within (λ found. inr found)
 
-withheld : (p : PatchList) (most made : ℕ) (Also : Searches → Type 0) (is : WereMadeIn p most made Also) → most ≤ 65537 → AreSpent made ⊎ (HasNothingToShow p made ⊎ (SomeHasFound p is.searches × HasEnded p made)) → IsWithheldAfter p made
-withheld p most made Also is few cause = record {
+withheld : (p : PatchList) (most many made : ℕ) (Also : Searches → Type 0) (is : WereMadeIn p most many made Also) → many ≤ 65537 → AreSpent most made ⊎ (HasNothingToShow p most made ⊎ (SomeHasFound p is.searches × HasEnded p most made)) → IsWithheldAfter p most made
+withheld p most many made Also is few cause = record {
   searches = is.searches;
   rounds = let l = is.few in omega (arith, few, l);
   each = each_at (IsSearch p) is.searches is.each;
   looks = is.looks;
-  half = is.half;
+  within = is.within;
   cause = cause;
 }
 
-pub withheld_found : (p : PatchList) (rounds made : ℕ) → rounds ≤ 65537 → WereMadeIn p rounds made (SomeHasFound p) → HasEnded p made → IsWithheldAfter p made
-withheld_found p rounds made few is ended = withheld p rounds made (SomeHasFound p) is few (inr (inr (is.also, ended)))
+pub withheld_found : (p : PatchList) (most rounds made : ℕ) → rounds ≤ 65537 → WereMadeIn p most rounds made (SomeHasFound p) → HasEnded p most made → IsWithheldAfter p most made
+withheld_found p most rounds made few is ended = withheld p most rounds made (SomeHasFound p) is few (inr (inr (is.also, ended)))
 
-pub withheld_spent : (p : PatchList) (rounds made : ℕ) → rounds ≤ 65537 → WereMadeIn p rounds made (SomeHasFound p) → AreSpent made → IsWithheldAfter p made
-withheld_spent p rounds made few is spent = withheld p rounds made (SomeHasFound p) is few (inl spent)
+pub withheld_spent : (p : PatchList) (most rounds made : ℕ) → rounds ≤ 65537 → WereMadeIn p most rounds made (SomeHasFound p) → AreSpent most made → IsWithheldAfter p most made
+withheld_spent p most rounds made few is spent = withheld p most rounds made (SomeHasFound p) is few (inl spent)
 
-pub spent_first : (p : PatchList) (light : Lightest) → AreFirst p light → AreSpent light.steps → IsWithheldAfter p light.steps
-spent_first p light first spent = withheld p 2 light.steps _ first.made (omega arith) (inl spent)
+pub spent_first : (p : PatchList) (most : ℕ) (light : Lightest) → AreFirst p most light → AreSpent most light.steps → IsWithheldAfter p most light.steps
+spent_first p most light first spent = withheld p most 2 light.steps _ first.made (omega arith) (inl spent)
 
-pub withheld_none : (p : PatchList) (light : Lightest) (g : Grown) → AreFirst p light → length light.types.items ≡ 0 → IsFirstProgram p g → ShowsNoWeights p light.steps g → IsWithheldAfter p light.steps
-withheld_none p light g first none program nothing = withheld p 2 light.steps _ first.made (omega arith) (elim (first.decided none) [
+pub withheld_none : (p : PatchList) (most : ℕ) (light : Lightest) (g : Grown) → AreFirst p most light → length light.types.items ≡ 0 → IsFirstProgram p g → ShowsNoWeights p most light.steps g → IsWithheldAfter p most light.steps
+withheld_none p most light g first none program nothing = withheld p most 2 light.steps _ first.made (omega arith) (elim (first.decided none) [
   | inl spent ↦ inl spent
   | inr lacking ↦ inr (inl (record { none = lacking; program = g; first = program; nothing = nothing }))
 ])

@@ -225,33 +225,33 @@ weights_are g (Mixture den parts) is = absurd is
 weights_are g (Violated den parts weights) is = tt
 weights_are g (Wide step) is = absurd is
 
-pub mixture_ends : (p : PatchList) (steps : ℕ) (g : Grown) (part : Option RandomPart) → MatchOption part (NumberPasses g) (IsMixtureReadOff g) → (ShowsNoMixture p steps g → IsWithheldAfter p steps) → EndsWith p part steps
-mixture_ends p steps g None passes so = so (inl passes)
-mixture_ends p steps g (Some part) is so = (mixture_is g part is, λ fails. so (inr (part, is, fails)))
+pub mixture_ends : (p : PatchList) (most steps : ℕ) (g : Grown) (part : Option RandomPart) → MatchOption part (NumberPasses g) (IsMixtureReadOff g) → (ShowsNoMixture p most steps g → IsWithheldAfter p most steps) → EndsWith p most part steps
+mixture_ends p most steps g None passes so = so (inl passes)
+mixture_ends p most steps g (Some part) is so = (mixture_is g part is, λ fails. so (inr (part, is, fails)))
 
-pub weights_end : (p : PatchList) (steps : ℕ) (g : Grown) (part : Option RandomPart) → MatchOption part (NumberPasses g) (AreWeightsReadOff g) → (ShowsNoWeights p steps g → IsWithheldAfter p steps) → EndsWith p part steps
-weights_end p steps g None passes so = so (inl passes)
-weights_end p steps g (Some part) is so = (weights_are g part is, λ fails. so (inr (part, is, fails)))
+pub weights_end : (p : PatchList) (most steps : ℕ) (g : Grown) (part : Option RandomPart) → MatchOption part (NumberPasses g) (AreWeightsReadOff g) → (ShowsNoWeights p most steps g → IsWithheldAfter p most steps) → EndsWith p most part steps
+weights_end p most steps g None passes so = so (inl passes)
+weights_end p most steps g (Some part) is so = (weights_are g part is, λ fails. so (inr (part, is, fails)))
 
-module _ (p : PatchList) (rounds made round : ℕ) (g : Grown) (few_searches : rounds ≤ 65537) (is : WereMadeIn p rounds made (SomeHasFound p)) (grown : HasGrown p round g) (few : round < 65536) where
-  pub ended_by_rounds : round ≡ 65535 → IsWithheldAfter p made
-  ended_by_rounds all = withheld_found p rounds made few_searches is (record { round = round; program = g; grown = grown; few = few; why = inl all })
+module _ (p : PatchList) (most rounds made round : ℕ) (g : Grown) (few_searches : rounds ≤ 65537) (is : WereMadeIn p most rounds made (SomeHasFound p)) (grown : HasGrown p round g) (few : round < 65536) where
+  pub ended_by_rounds : round ≡ 65535 → IsWithheldAfter p most made
+  ended_by_rounds all = withheld_found p most rounds made few_searches is (record { round = round; program = g; grown = grown; few = few; why = inl all })
 
-  pub ended_by_pivots : (A : Type 0) (ends : Bool) → ends ≡ false → MatchBool ends A (IsLeft g) → IsWithheldAfter p made
+  pub ended_by_pivots : (A : Type 0) (ends : Bool) → ends ≡ false → MatchBool ends A (IsLeft g) → IsWithheldAfter p most made
   ended_by_pivots A true e left = absurd (false≢true (sym e))
-  ended_by_pivots A false e left = withheld_found p rounds made few_searches is (record { round = round; program = g; grown = grown; few = few; why = inr (inl left) })
+  ended_by_pivots A false e left = withheld_found p most rounds made few_searches is (record { round = round; program = g; grown = grown; few = few; why = inr (inl left) })
 
   module _ (B : Type 0) (next : Grown) (ends_well : Bool) (well : ends_well ≡ true) (solves : MatchBool ends_well (IsSolvedBy p.total g next) B) where
-    ended_by : HasNoEvidence p made next → IsWithheldAfter p made
-    ended_by nothing = withheld_found p rounds made few_searches is (record { round = round; program = g; grown = grown; few = few; why = inr (inr (next, solved B p.total g next ends_well well solves, nothing)) })
+    ended_by : HasNoEvidence p most made next → IsWithheldAfter p most made
+    ended_by nothing = withheld_found p most rounds made few_searches is (record { round = round; program = g; grown = grown; few = few; why = inr (inr (next, solved B p.total g next ends_well well solves, nothing)) })
 
-    pub ended_by_price : SomePriceIsWide p next → IsWithheldAfter p made
+    pub ended_by_price : SomePriceIsWide p next → IsWithheldAfter p most made
     ended_by_price wide = ended_by (inr (inl wide))
 
-    pub ended_by_mixture : HasSoMuch next p.total → ShowsNoMixture p made next → IsWithheldAfter p made
+    pub ended_by_mixture : HasSoMuch next p.total → ShowsNoMixture p most made next → IsWithheldAfter p most made
     ended_by_mixture whole nothing = ended_by (inl (whole, nothing))
 
-    pub ended_by_weights : HasNoLightType p next → ShowsNoWeights p made next → IsWithheldAfter p made
+    pub ended_by_weights : HasNoLightType p next → ShowsNoWeights p most made next → IsWithheldAfter p most made
     ended_by_weights none nothing = ended_by (inr (inr (none, nothing)))
 
 -- a verdict is not withheld

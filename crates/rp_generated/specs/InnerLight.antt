@@ -137,16 +137,16 @@ pub record HasSought (p : PatchList) (weights : List ℕ) (before after : Lighte
 
 -- The steps are spent, or no rational type that begins with these patches is lighter.
 abbrev pub IsSettled : PatchList → List ℕ → List ℕ → Lightest → Type 0
-IsSettled p weights front light = AreSpent light.steps ⊎ NoneIsLighter p weights front light.weight
+IsSettled p weights front light = AreSpent light.most light.steps ⊎ NoneIsLighter p weights front light.weight
 
 -- The same of those that go on with one of the first k patches of a list.
 abbrev pub IsSettledBelow : PatchList → List ℕ → List ℕ → List ℕ → ℕ → Lightest → Type 0
 IsSettledBelow p weights front list k light =
-    AreSpent light.steps
+    AreSpent light.most light.steps
     ⊎ ((m : ℕ) → m < k → NoneIsLighter p weights (front ++ slice_index list m ∷ []) light.weight)
 
 -- With what a search ends that began without types: they are lighter than was asked, and where there is none, the steps
 -- are spent or no rational type is lighter.
 pub record HasEndedBelow (p : PatchList) (weights : List ℕ) (below : ℕ) (found : Lightest) : Type 0 where
   pub light : AreLighter p weights below found.types.items
-  pub settled : length found.types.items ≡ 0 → AreSpent found.steps ⊎ NoneIsLighter p weights [] below
+  pub settled : length found.types.items ≡ 0 → AreSpent found.most found.steps ⊎ NoneIsLighter p weights [] below

@@ -1,6 +1,5 @@
 -- How far a search has come: what it has looked at, so that each step that it counts is a look, and none is made twice.
-use Rattle.std.specs.Prelude.{◌≡◌, ◌≢◌, ◌+◌, ◌*◌, ◌<◌, ◌≤◌, ◌⊎◌, ◌++◌, ⊤, [], ◌∷◌, ℕ, List, length, slice_index, sum_by}
-use Rattle.rp_limits.specs.declared.generated.TheConstants.{STEPS}
+use Rattle.std.specs.Prelude.{◌≡◌, ◌≢◌, ◌+◌, ◌<◌, ◌≤◌, ◌⊎◌, ◌++◌, ⊤, [], ◌∷◌, ℕ, List, length, slice_index, sum_by}
 use Rattle.rp_patch.specs.PartialTypes.{Begins}
 use Rattle.rp_patch.specs.Patches.{PatchList, budget_at}
 use Rattle.rp_patch.specs.Types.{IsRationalType}
@@ -60,24 +59,24 @@ NoneBegins p front = (type : List ℕ) → IsRationalType p type → ¬ Begins t
 
 -- where no type was found, the steps are spent, or no rational type begins with these patches
 abbrev pub IsDecided : PatchList → List ℕ → Lightest → Type 0
-IsDecided p front light = length light.types.items ≡ 0 → AreSpent light.steps ⊎ NoneBegins p front
+IsDecided p front light = length light.types.items ≡ 0 → AreSpent light.most light.steps ⊎ NoneBegins p front
 
 -- the same of those that go on with a patch before this one
 abbrev pub IsDecidedBelow : PatchList → List ℕ → ℕ → Lightest → Type 0
 IsDecidedBelow p front i light =
     length light.types.items ≡ 0
-    → AreSpent light.steps ⊎ ((h : ℕ) → h < i → NoneBegins p (front ++ h ∷ []))
+    → AreSpent light.most light.steps ⊎ ((h : ℕ) → h < i → NoneBegins p (front ++ h ∷ []))
 
--- so many searches at most made so many steps, and this holds of them
-pub record WereMadeIn (p : PatchList) (most made : ℕ) (Also : List (List (List ℕ)) → Type 0) : Type 0 where
+-- so many searches at most made so many steps, of those that may be made, and this holds of them
+pub record WereMadeIn (p : PatchList) (most many made : ℕ) (Also : List (List (List ℕ)) → Type 0) : Type 0 where
   pub searches : List (List (List ℕ))
-  pub few : length searches ≤ most
+  pub few : length searches ≤ many
   pub each : Each (IsSearch p) searches
   pub looks : sum_by length searches ≡ made
-  pub half : 2 * made ≤ STEPS
+  pub within : made ≤ most
   pub also : Also searches
 
 -- the first searches, of which the last decides whether there is a rational type
-pub record AreFirst (p : PatchList) (light : Lightest) : Type 0 where
-  pub made : WereMadeIn p 2 light.steps (λ searches. 0 < length light.types.items → SomeHasFound p searches)
-  pub decided : length light.types.items ≡ 0 → AreSpent light.steps ⊎ HasNoRationalType p
+pub record AreFirst (p : PatchList) (most : ℕ) (light : Lightest) : Type 0 where
+  pub made : WereMadeIn p most 2 light.steps (λ searches. 0 < length light.types.items → SomeHasFound p searches)
+  pub decided : length light.types.items ≡ 0 → AreSpent most light.steps ⊎ HasNoRationalType p

@@ -29,10 +29,10 @@ HasPrices p g weights = (i : ℕ) → i < length p.patches → pos (slice_index 
 -- type is light.
 pub record FindsBy (p : PatchList) (g : Grown) (found : Lightest) : Type 0 where
   pub light : AreLightTypes p g found.types.items
-  pub none : length found.types.items ≡ 0 → AreSpent found.steps ⊎ HasNoLightType p g
+  pub none : length found.types.items ≡ 0 → AreSpent found.most found.steps ⊎ HasNoLightType p g
 
 -- With what the rounds end: without a part, and then the verdict is withheld; or with a verdict, and then it is withheld
 -- where the checker does not take it.
-abbrev pub EndsWith : PatchList → Option RandomPart → ℕ → Type 0
-EndsWith p found steps =
-    MatchOption found (IsWithheldAfter p steps) (λ part. IsVerdict part × (IsNotTaken p steps part → IsWithheldAfter p steps))
+abbrev pub EndsWith : PatchList → ℕ → Option RandomPart → ℕ → Type 0
+EndsWith p most found steps =
+    MatchOption found (IsWithheldAfter p most steps) (λ part. IsVerdict part × (IsNotTaken p most steps part → IsWithheldAfter p most steps))

@@ -1,6 +1,6 @@
 -- Rounds: the program over the types so far is solved, and rational types are added (Smeulders, Cherchye and De Rock
 -- 2021).
-use Rattle.std.specs.Prelude.{◌≡◌, ◌-◌, ◌<◌, ◌⊎◌, ⊤, ◌++◌, [], ◌∷◌, ℕ, zero, suc, ℤ, pos, ◌≤ℤ◌, ◌<ℤ◌, Err, List, Vec, length, map, slice_index}
+use Rattle.std.specs.Prelude.{◌≡◌, ◌*◌, ◌-◌, ◌<◌, ◌⊎◌, ⊤, ◌++◌, [], ◌∷◌, ℕ, zero, suc, ℤ, pos, ◌≤ℤ◌, ◌<ℤ◌, Err, List, Vec, length, map, slice_index}
 use Rattle.std.specs.List.Sorted.{IsPermutation}
 use Rattle.std.specs.declared.alloc.Global.{Global}
 use Rattle.rp_check_mixture.specs.RandomWithin.{RandomFailsWithin}
@@ -10,7 +10,6 @@ use Rattle.rp_evidence.specs.declared.random.RandomPart.TheVariants.{Mixture, Vi
 use Rattle.rp_evidence.specs.declared.random.Share.{Share}
 use Rattle.rp_farkas.specs.Total.{total}
 use Rattle.rp_farkas.specs.declared.entry.Entry.{Entry}
-use Rattle.rp_limits.specs.declared.generated.TheConstants.{STEPS}
 use Rattle.rp_patch.specs.Patches.{PatchList, units_at}
 use Rattle.rp_patch.specs.Types.{IsRationalType}
 use Rattle.rp_whole_tableau.specs.Programs.{HasSoMuch, IsFirst, IsLeft, IsSolvedBy, NumberPasses, price_of, rows_of}
@@ -68,11 +67,12 @@ IsVerdict (Mixture den parts) = ⊤
 IsVerdict (Violated den parts weights) = ⊤
 IsVerdict (Wide step) = ⊥
 
--- The checker finds something wrong with a verdict in the steps that are left after so many.
-pub record IsNotTaken (p : PatchList) (steps : ℕ) (part : RandomPart) : Type 0 where
+-- The checker finds something wrong with a verdict in the steps that are left after so many, of twice those that the
+-- searches may make.
+pub record IsNotTaken (p : PatchList) (most steps : ℕ) (part : RandomPart) : Type 0 where
   pub verdict : IsVerdict part
   pub why : Failure
-  pub fails : RandomFailsWithin p p.total part (STEPS - steps) (Err why)
+  pub fails : RandomFailsWithin p p.total part (2 * most - steps) (Err why)
 
 -- A type and how much there is of it, for a column of the program.
 abbrev pub share_of : Grown → Entry → Share
@@ -98,35 +98,35 @@ AreWeightsReadOff g (Violated den parts weights) =
 AreWeightsReadOff g (Wide step) = ⊥
 
 -- The mixture that a program shows is no evidence: a number of it is past its width, or the checker does not take it.
-abbrev pub ShowsNoMixture : PatchList → ℕ → Grown → Type 0
-ShowsNoMixture p steps g =
-    NumberPasses g ⊎ ((part : RandomPart) × IsMixtureReadOff g part × IsNotTaken p steps part)
+abbrev pub ShowsNoMixture : PatchList → ℕ → ℕ → Grown → Type 0
+ShowsNoMixture p most steps g =
+    NumberPasses g ⊎ ((part : RandomPart) × IsMixtureReadOff g part × IsNotTaken p most steps part)
 
 -- The same of the partial mixture and the weights.
-abbrev pub ShowsNoWeights : PatchList → ℕ → Grown → Type 0
-ShowsNoWeights p steps g =
-    NumberPasses g ⊎ ((part : RandomPart) × AreWeightsReadOff g part × IsNotTaken p steps part)
+abbrev pub ShowsNoWeights : PatchList → ℕ → ℕ → Grown → Type 0
+ShowsNoWeights p most steps g =
+    NumberPasses g ⊎ ((part : RandomPart) × AreWeightsReadOff g part × IsNotTaken p most steps part)
 
 -- A solved program shows no evidence: it has the whole total, and its mixture is none; or else a price is past a word; or
 -- no rational type is light by its prices, and its weights are none.
-abbrev pub HasNoEvidence : PatchList → ℕ → Grown → Type 0
-HasNoEvidence p steps g =
-    (HasSoMuch g p.total × ShowsNoMixture p steps g)
-    ⊎ (SomePriceIsWide p g ⊎ (HasNoLightType p g × ShowsNoWeights p steps g))
+abbrev pub HasNoEvidence : PatchList → ℕ → ℕ → Grown → Type 0
+HasNoEvidence p most steps g =
+    (HasSoMuch g p.total × ShowsNoMixture p most steps g)
+    ⊎ (SomePriceIsWide p g ⊎ (HasNoLightType p g × ShowsNoWeights p most steps g))
 
 -- The rounds end without evidence after so many steps: all 65,536 rounds were made, or the pivots of a round are left, or
 -- else the program is solved, and what it shows is no evidence.
-pub record HasEnded (p : PatchList) (steps : ℕ) : Type 0 where
+pub record HasEnded (p : PatchList) (most steps : ℕ) : Type 0 where
   pub round : ℕ
   pub program : Grown
   pub grown : HasGrown p round program
   pub few : round < 65536
   pub why : (round ≡ 65535) ⊎ (IsLeft program
-      ⊎ ((solved : Grown) × IsSolvedBy p.total program solved × HasNoEvidence p steps solved))
+      ⊎ ((solved : Grown) × IsSolvedBy p.total program solved × HasNoEvidence p most steps solved))
 
 -- There is no rational type, and the program without types shows no evidence of it.
-pub record HasNothingToShow (p : PatchList) (steps : ℕ) : Type 0 where
+pub record HasNothingToShow (p : PatchList) (most steps : ℕ) : Type 0 where
   pub none : (type : List ℕ) → ¬ IsRationalType p type
   pub program : Grown
   pub first : IsFirstProgram p program
-  pub nothing : ShowsNoWeights p steps program
+  pub nothing : ShowsNoWeights p most steps program

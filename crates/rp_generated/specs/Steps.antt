@@ -39,20 +39,25 @@ SomeHasFound p (looks ∷ searches) = HasFound p looks ⊎ SomeHasFound p search
 abbrev pub HasNoRationalType : PatchList → Type 0
 HasNoRationalType p = (type : List ℕ) → ¬ IsRationalType p type
 
--- The steps of all searches are spent. They have half of the steps that may be made: the other half is the check's.
-abbrev pub AreSpent : ℕ → Type 0
-AreSpent steps = 2 * steps ≡ STEPS
+-- The most steps of searches that a user can set, and those where none is set. They are half of the steps that may be
+-- made: the other half is the check's.
+abbrev pub IsMostSteps : ℕ → Type 0
+IsMostSteps most = 2 * most ≤ STEPS
 
--- A verdict is withheld after so many steps. They are the looks of searches: of one that leaves out nothing, and of one
+-- All steps that the searches may make are spent.
+abbrev pub AreSpent : ℕ → ℕ → Type 0
+AreSpent most steps = steps ≡ most
+
+-- A verdict is withheld after so many steps, where so many at most may be made. They are the looks of searches: of one that leaves out nothing, and of one
 -- in each of at most 65,536 rounds. Either all steps are spent; or there is no rational type, and the checker does not take
 -- what shows it; or some search found one, and the rounds over the found types ended without evidence.
-pub record IsWithheldAfter (p : PatchList) (steps : ℕ) : Type 0 where
+pub record IsWithheldAfter (p : PatchList) (most steps : ℕ) : Type 0 where
   pub searches : List (List (List ℕ))
   pub rounds : length searches ≤ 65537
   pub each : All (IsSearch p) searches
   pub looks : sum_by length searches ≡ steps
-  pub half : 2 * steps ≤ STEPS
-  pub cause : AreSpent steps ⊎ (HasNothingToShow p steps ⊎ (SomeHasFound p searches × HasEnded p steps))
+  pub within : steps ≤ most
+  pub cause : AreSpent most steps ⊎ (HasNothingToShow p most steps ⊎ (SomeHasFound p searches × HasEnded p most steps))
 
 -- Of the steps after which a verdict is withheld this holds.
 abbrev pub WithheldAt : RandomPart → (ℕ → Type 0) → Type 0

@@ -12,4 +12,4 @@ mod plain;
 mod prices;
 mod rounds;
 
-pub use generated_verdict::generated;
+pub use generated_verdict::{SEARCH_STEPS, generated};

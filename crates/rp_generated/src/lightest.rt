@@ -1,12 +1,11 @@
 //! The search for light rational types, depth first over the budgets, the lightest patch of each first. A partial type
 //! is left where it has a violation, and where it cannot get lighter than the lightest type so far by patches that make
 //! no violation with one of its own.
-ghost use Rattle.std.specs.Prelude.{◌≡◌, ◌<◌, ◌≤◌, ◌+◌, ◌*◌, ◌++◌, ◌∷◌, [], ℕ, IfNone, IfOk, IfSome, List};
+ghost use Rattle.std.specs.Prelude.{◌≡◌, ◌<◌, ◌≤◌, ◌+◌, ◌++◌, ◌∷◌, [], ℕ, IfNone, IfOk, IfSome, List};
 ghost use Rattle.std.specs.Prelude.{length};
 ghost use Rattle.rp_generated.specs.InnerLight.{AreCompatible, AreListed, HasEndedBelow, HasSought};
 ghost use Rattle.rp_generated.specs.InnerLight.{IsSettled, IsWeighed, NoneIsLighter};
 ghost use Rattle.rp_generated.specs.InnerLooks.{Looked, LookedFrom};
-ghost use Rattle.rp_limits.specs.declared.generated.TheConstants.{STEPS};
 ghost use Rattle.rp_patch.specs.PartialTypes.{IsPartialType, taken_in};
 ghost use Rattle.rp_patch.specs.Patches.{budget_at};
 
@@ -36,8 +35,9 @@ impl Lightest {
         requires compatible { AreCompatible patches.now compatible.now }
         requires patch { i < length patches.now.patches }
         requires next { budget_at patches.now i ≡ begun.now.partial.taken }
-        requires left { 2 * self.old.steps + 2 ≤ STEPS }
+        requires left { self.old.steps < self.old.most }
         ensures counted { self.new.steps ≡ self.old.steps + 1 }
+        ensures most { self.new.most ≡ self.old.most }
         ensures types { self.new.types ≡ self.old.types }
         ensures weight { self.new.weight ≡ self.old.weight }
         ensures weighed { IfSome result (IsWeighed patches.now prices.now.prices.items) }
@@ -146,6 +146,7 @@ fn seek(
         Looked patches.now (taken_in begun.now.partial) lightest.old lightest.new) }
     ensures sought { IfOk result (λ _.
         HasSought patches.now prices.now.prices.items lightest.old lightest.new) }
+    ensures most { IfOk result (λ _. lightest.new.most ≡ lightest.old.most) }
     ensures settled { IfOk result (λ _. IsSettled patches.now prices.now.prices.items
         (taken_in begun.now.partial) lightest.new) }
 {
@@ -172,7 +173,8 @@ fn seek(
     Ok(())
 }
 
-/// Rational types that weigh less than this by prices, the lightest last, where there is one; `steps` were made before.
+/// Rational types that weigh less than this by prices, the lightest last, where there is one; `steps` were made before, of
+/// at most `most`.
 pub(crate) fn light_types(
     alloc: Global,
     patches: &Patches,
@@ -180,18 +182,21 @@ pub(crate) fn light_types(
     compatible: &Compatible,
     below: u128,
     steps: u64,
+    most: u64,
 ) -> Result<Lightest, NoMemory>
-    requires few { 2 * steps ≤ STEPS }
+    requires few { steps ≤ most }
     requires some { 1 ≤ below }
     requires listed { AreListed patches.now prices.now }
     requires compatible { AreCompatible patches.now compatible.now }
     ensures looked { IfOk result (LookedFrom patches.now steps) }
+    ensures most { IfOk result (λ light. light.most ≡ most) }
     ensures ended { IfOk result (HasEndedBelow patches.now prices.now.prices.items below) }
 {
     let mut lightest = Lightest {
         weight: below,
         types: Vec::new(alloc),
         steps,
+        most,
     };
     let none = Begun::new(patches);
     seek(alloc, patches, prices, compatible, &none, &mut lightest)?;

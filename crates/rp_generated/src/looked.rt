@@ -1,33 +1,29 @@
 //! What searches have found, and how many steps they made.
-ghost use Rattle.std.specs.Prelude.{◌≡◌, ◌≤◌, ◌+◌, ◌*◌, IfOk, length, true, false};
+ghost use Rattle.std.specs.Prelude.{◌≡◌, ◌<◌, ◌≤◌, ◌+◌, IfOk, length, true, false};
 ghost use Rattle.rp_generated.specs.InnerTypes.{AddsLast};
-ghost use Rattle.rp_limits.specs.declared.generated.TheConstants.{STEPS};
 
-use rp_limits::generated::STEPS;
 use rp_num::NoMemory;
 use std::alloc::Global;
 
-/// The most steps that all searches of a run make, half of those that may be made: the check looks once more for a
-/// type that is too light, in the steps that are left.
-pub(crate) const SEARCH_STEPS: u64 = STEPS / 2;
-
 /// The types that were found, each lighter than the one before it; what the last of them weighs, or else what was asked
-/// to be passed below; and how many patches all searches of the run looked at for a partial type.
+/// to be passed below; how many patches all searches of the run looked at for a partial type, and how many they may look
+/// at.
 #[derive(Drop)]
 pub(crate) struct Lightest {
     pub(crate) weight: u128,
     pub(crate) types: Vec<Vec<u32>>,
     pub(crate) steps: u64,
-    ghost few: { 2 * steps ≤ STEPS },
+    pub(crate) most: u64,
+    ghost few: { steps ≤ most },
 }
 
 impl Lightest {
     /// Whether no steps are left.
     pub(crate) fn is_given_up(&self) -> bool
-        ensures spent { result ≡ true → 2 * self.now.steps ≡ STEPS }
-        ensures left { result ≡ false → 2 * self.now.steps + 2 ≤ STEPS }
+        ensures spent { result ≡ true → self.now.steps ≡ self.now.most }
+        ensures left { result ≡ false → self.now.steps < self.now.most }
     {
-        self.steps >= SEARCH_STEPS
+        self.steps >= self.most
     }
 
     /// Takes a type that is lighter.
@@ -38,6 +34,7 @@ impl Lightest {
         weight: u128,
     ) -> Result<(), NoMemory>
         ensures steps { self.new.steps ≡ self.old.steps }
+        ensures most { self.new.most ≡ self.old.most }
         ensures weight { IfOk result (λ _. self.new.weight ≡ weight) }
         ensures more { IfOk result (λ _.
             length self.new.types.items ≡ length self.old.types.items + 1) }

@@ -1,11 +1,10 @@
 //! The search for a rational type that leaves out nothing, depth first over the budgets in the order of the patches. It
 //! decides whether there is one where the search with prices has found none.
-ghost use Rattle.std.specs.Prelude.{◌≡◌, ◌<◌, ◌≤◌, ◌+◌, ◌*◌, ◌++◌, ◌∷◌, []};
+ghost use Rattle.std.specs.Prelude.{◌≡◌, ◌<◌, ◌≤◌, ◌+◌, ◌++◌, ◌∷◌, []};
 ghost use Rattle.std.specs.Prelude.{IfNone, IfOk, IfSome, length};
 ghost use Rattle.rp_generated.specs.InnerLooks.{IsDecided, Looked, LookedFrom, NoneBegins};
 ghost use Rattle.rp_generated.specs.InnerRounds.{StayTypes};
 ghost use Rattle.rp_generated.specs.Rounds.{AreTypes};
-ghost use Rattle.rp_limits.specs.declared.generated.TheConstants.{STEPS};
 ghost use Rattle.rp_patch.specs.PartialTypes.{IsPartialType, taken_in};
 
 use crate::looked::Lightest;
@@ -25,8 +24,9 @@ impl Lightest {
     ) -> Option<PartialType>
         requires part { IsPartialType patches.now partial.now }
         requires patch { i < length patches.now.patches }
-        requires left { 2 * self.old.steps + 2 ≤ STEPS }
+        requires left { self.old.steps < self.old.most }
         ensures counted { self.new.steps ≡ self.old.steps + 1 }
+        ensures most { self.new.most ≡ self.old.most }
         ensures types { self.new.types ≡ self.old.types }
         ensures part { IfSome result (IsPartialType patches.now) }
         ensures taken { IfSome result (λ longer. longer.taken ≡ partial.now.taken + 1) }
@@ -51,6 +51,7 @@ fn seek_plainly(
     requires { IsPartialType patches.now partial.now }
     ensures looked { IfOk result (λ _.
         Looked patches.now (taken_in partial.now) light.old light.new) }
+    ensures most { IfOk result (λ _. light.new.most ≡ light.old.most) }
     ensures decided { IfOk result (λ _.
         IsDecided patches.now (taken_in partial.now) light.new) }
     ensures types { IfOk result (λ _. StayTypes patches.now light.old light.new) }
@@ -72,10 +73,15 @@ fn seek_plainly(
     Ok(())
 }
 
-/// The first rational type, where there is one; `steps` were made before.
-pub(crate) fn first_type(alloc: Global, patches: &Patches, steps: u64) -> Result<Lightest, NoMemory>
-    requires { 2 * steps ≤ STEPS }
-    ensures few { IfOk result (λ light. 2 * light.steps ≤ STEPS) }
+/// The first rational type, where there is one; `steps` were made before, of at most `most`.
+pub(crate) fn first_type(
+    alloc: Global,
+    patches: &Patches,
+    steps: u64,
+    most: u64,
+) -> Result<Lightest, NoMemory>
+    requires { steps ≤ most }
+    ensures most { IfOk result (λ light. light.most ≡ most) }
     ensures looked { IfOk result (LookedFrom patches.now steps) }
     ensures decided { IfOk result (IsDecided patches.now []) }
     ensures types { IfOk result (λ light. AreTypes patches.now light.types.items) }
@@ -84,6 +90,7 @@ pub(crate) fn first_type(alloc: Global, patches: &Patches, steps: u64) -> Result
         weight: 0,
         types: Vec::new(alloc),
         steps,
+        most,
     };
     let none = PartialType::new(patches);
     seek_plainly(alloc, patches, &none, &mut light)?;

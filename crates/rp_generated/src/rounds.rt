@@ -1,6 +1,6 @@
 //! Rounds of the search: the program over the types so far is solved, and types that are light by its prices are added,
 //! until there is none, or a mixture of these types has the whole total.
-ghost use Rattle.std.specs.Prelude.{◌≡◌, ◌*◌, ◌≤◌, ◌<ℤ◌, ◌⊎◌, IfNone, IfOk, IfSome, MatchOption, length, pos};
+ghost use Rattle.std.specs.Prelude.{◌≡◌, ◌≤◌, ◌<ℤ◌, ◌⊎◌, IfNone, IfOk, IfSome, MatchOption, length, pos};
 ghost use Rattle.rp_generated.specs.InnerLight.{AreCompatible, AreListed};
 ghost use Rattle.rp_generated.specs.InnerLooks.{AreFirst, LookedFrom, WereMadeIn};
 ghost use Rattle.rp_generated.specs.InnerRounds.{AddsFirst, EndsWith, FindsBy, HasPrices};
@@ -9,7 +9,6 @@ ghost use Rattle.rp_generated.specs.Steps.{SomeHasFound};
 ghost use Rattle.rp_patch.specs.Patches.{PatchList};
 ghost use Rattle.rp_whole_tableau.specs.Programs.{price_of};
 ghost use Rattle.rp_whole_tableau.specs.declared.grown.Grown.{Grown};
-ghost use Rattle.rp_limits.specs.declared.generated.TheConstants.{STEPS};
 
 use crate::compatible::Compatible;
 use crate::lightest::light_types;
@@ -31,7 +30,6 @@ const MOST_ROUNDS: u32 = 65_536;
 pub(crate) struct Found {
     pub(crate) part: Option<RandomPart>,
     pub(crate) steps: u64,
-    ghost few: { 2 * steps ≤ STEPS },
 }
 
 /// The program of a row for each patch with its units, and no types yet.
@@ -92,10 +90,12 @@ fn found_by(
     compatible: &Compatible,
     program: &Grown,
     steps: u64,
+    most: u64,
 ) -> Result<Option<Lightest>, NoMemory>
-    requires few { 2 * steps ≤ STEPS }
+    requires few { steps ≤ most }
     requires compatible { AreCompatible patches.now compatible.now }
     ensures looked { IfOk result (λ found. IfSome found (LookedFrom patches.now steps)) }
+    ensures most { IfOk result (λ found. IfSome found (λ light. light.most ≡ most)) }
     ensures finds { IfOk result (λ found. MatchOption found (SomePriceIsWide patches.now program.now)
         (FindsBy patches.now program.now)) }
 {
@@ -103,7 +103,7 @@ fn found_by(
         return Ok(None);
     };
     let den = program.den();
-    Ok(Some(light_types(alloc, patches, &prices, compatible, den, steps)?))
+    Ok(Some(light_types(alloc, patches, &prices, compatible, den, steps, most)?))
 }
 
 /// The types that the rounds begin with: those that the search with the prices of no types finds, or else the first that
@@ -113,33 +113,37 @@ fn first_types(
     patches: &Patches,
     compatible: &Compatible,
     program: &Grown,
+    most: u64,
 ) -> Result<Lightest, NoMemory>
     requires { AreCompatible patches.now compatible.now }
-    ensures first { IfOk result (AreFirst patches.now) }
+    ensures first { IfOk result (AreFirst patches.now most) }
+    ensures most { IfOk result (λ light. light.most ≡ most) }
     ensures types { IfOk result (λ light. AreTypes patches.now light.types.items) }
 {
     prove!(patches.budgets() >= 1);
-    let Some(light) = found_by(alloc, patches, compatible, program, 0)? else {
-        return first_type(alloc, patches, 0);
+    let Some(light) = found_by(alloc, patches, compatible, program, 0, most)? else {
+        return first_type(alloc, patches, 0, most);
     };
     if light.is_given_up() || !light.types.is_empty() {
         return Ok(light);
     }
-    first_type(alloc, patches, light.steps)
+    first_type(alloc, patches, light.steps, most)
 }
 
-/// The rounds after the first, over a program of the types that this found.
+/// The rounds after the first, over a program of the types that this found, of at most `most` steps in all.
 fn later_rounds(
     alloc: Global,
     patches: &Patches,
     compatible: &Compatible,
     program: &mut Grown,
     first: u64,
+    most: u64,
 ) -> Result<Found, NoMemory>
     requires compatible { AreCompatible patches.now compatible.now }
-    requires made { WereMadeIn patches.now 2 first (SomeHasFound patches.now) }
+    requires made { WereMadeIn patches.now most 2 first (SomeHasFound patches.now) }
     requires grown { HasGrown patches.now 0 program.old }
-    ensures { IfOk result (λ found. EndsWith patches.now found.part found.steps) }
+    ensures few { IfOk result (λ found. found.steps ≤ most) }
+    ensures ends { IfOk result (λ found. EndsWith patches.now most found.part found.steps) }
 {
     let mut steps = first;
     for _round in 0..MOST_ROUNDS - 1 {
@@ -150,7 +154,7 @@ fn later_rounds(
             let part = mixture(alloc, program)?;
             return Ok(Found { part, steps });
         }
-        let Some(light) = found_by(alloc, patches, compatible, program, steps)? else {
+        let Some(light) = found_by(alloc, patches, compatible, program, steps, most)? else {
             return Ok(Found { part: None, steps });
         };
         steps = light.steps;
@@ -166,13 +170,14 @@ fn later_rounds(
     Ok(Found { part: None, steps })
 }
 
-/// The rounds. The steps that they tell were made.
-pub(crate) fn rounds(alloc: Global, patches: &Patches) -> Result<Found, NoMemory>
-    ensures { IfOk result (λ found. EndsWith patches.now found.part found.steps) }
+/// The rounds, of at most `most` steps. The steps that they tell were made.
+pub(crate) fn rounds(alloc: Global, patches: &Patches, most: u64) -> Result<Found, NoMemory>
+    ensures few { IfOk result (λ found. found.steps ≤ most) }
+    ensures ends { IfOk result (λ found. EndsWith patches.now most found.part found.steps) }
 {
     let compatible = Compatible::make(alloc, patches)?;
     let mut program = first_program(alloc, patches)?;
-    let light = first_types(alloc, patches, &compatible, &program)?;
+    let light = first_types(alloc, patches, &compatible, &program, most)?;
     let steps = light.steps;
     if light.is_given_up() {
         return Ok(Found { part: None, steps });
@@ -182,5 +187,5 @@ pub(crate) fn rounds(alloc: Global, patches: &Patches) -> Result<Found, NoMemory
         return Ok(Found { part, steps });
     }
     add_all(alloc, &mut program, light.types.as_slice())?;
-    later_rounds(alloc, patches, &compatible, &mut program, steps)
+    later_rounds(alloc, patches, &compatible, &mut program, steps, most)
 }

@@ -1,6 +1,6 @@
 //! Mixtures of rational types that are generated, and where there is none.
 use crate::mixtures::told::{Ask, assert_each, share_text};
-use rp_generated::generated;
+use rp_generated::{SEARCH_STEPS, generated};
 use rp_limits::generated::PATCHES;
 use rp_patch::of_choices::patches_within;
 use rp_text::{read_budgets, read_choices};
@@ -78,7 +78,7 @@ fn more_patches_than_are_listed(rt: HostRuntime) -> Result<(), Fail> {
     let budgets = read_budgets(alloc, DRAWN.as_bytes())?;
     let choices = read_choices(alloc, ON_DRAWN.as_bytes(), &budgets)?;
     let made = patches_within(alloc, &budgets, &choices, None, PATCHES)?;
-    let part = generated(alloc, &made)?;
+    let part = generated(alloc, &made, SEARCH_STEPS)?;
     assert_eq!(rt; made.count(), 70);
     let told = share_text(alloc, &part, made.total())?;
     assert!(rt; told.as_str() == "violated, 17 and 0 left of 20", "{told}");

@@ -3,7 +3,7 @@ ghost use Rattle.std.specs.Prelude.{◌≤◌, IfSome, length};
 ghost use Rattle.rp_limits.specs.declared.patch.TheConstants.{PATCHES};
 
 use rp_evidence::{RandomPart, Share};
-use rp_generated::generated;
+use rp_generated::{SEARCH_STEPS, generated};
 use rp_limits::patch::UNITS;
 use rp_patch::of_choices::patches;
 use rp_patch::{PatchFault, Patches};
@@ -174,8 +174,8 @@ fn told_of(alloc: Global, ask: Ask, made: &Patches) -> Result<String, Fail>
         }
         Ask::Types | Ask::Counts => Ok(told_types(alloc, ask, made)?),
         Ask::Evidence => told_evidence(alloc, made),
-        Ask::Generated => Ok(evidence_text(alloc, &generated(alloc, made)?)?),
-        Ask::GeneratedShare => Ok(share_text(alloc, &generated(alloc, made)?, made.total())?),
+        Ask::Generated => Ok(evidence_text(alloc, &generated(alloc, made, SEARCH_STEPS)?)?),
+        Ask::GeneratedShare => Ok(share_text(alloc, &generated(alloc, made, SEARCH_STEPS)?, made.total())?),
     }
 }
 

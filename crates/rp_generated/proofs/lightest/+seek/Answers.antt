@@ -1,4 +1,4 @@
-use Rattle.std.proofs.Common.{inl, inr, [], ◌∷◌, ◌++◌, ◌+◌, ◌≤◌, List, ℕ, subst, sym, ◌≡◌, ◌<◌, ◌∙◌, ap, arith, length, rules, slice_index}
+use Rattle.std.proofs.Common.{inl, inr, [], ◌∷◌, ◌++◌, ◌+◌, ◌≤◌, List, ℕ, refl, subst, sym, ◌≡◌, ◌<◌, ◌∙◌, ap, arith, length, rules, slice_index}
 use Rattle.rp_patch.proofs.SearchLaws.{whole_type}
 use Rattle.rp_patch.specs.Types.{IsRationalType}
 use Rattle.rp_generated.proofs.RoundLaws.{ok_both, ok_so}
@@ -21,6 +21,7 @@ returns-then-taken-budgets-clause-looked t c =
 
 pub loop-k-init : goal.loop-k-init
 loop-k-init t c = record {
+  most = refl;
   looked = start_looking c.args.patches.now (taken_in c.args.begun.now.partial) (slice_index c.on-list.result.now) (length c.on-list.result.now) c.args.lightest.now.steps (length c.args.lightest.now.types.items);
   sought = sought_none c.args.patches.now c.args.prices.now.prices.items c.args.lightest.now;
   settled = inr (λ m l. absurd (omega (arith, l)));
@@ -68,13 +69,14 @@ loop-k-preserved t c =
     let ordered = c.on-list.ensures p c.requires.listed short in
     let within : k < length list = search rules in
     let some_left = c.is_given_up.ensures.left c.if-is_given_up.false in
-    let left : ¬ AreSpent c.loop-k.lightest.steps = λ spent. absurd (omega (arith, spent, some_left)) in
+    let left : ¬ AreSpent c.loop-k.lightest.most c.loop-k.lightest.steps = λ spent. absurd (omega (arith, spent, some_left)) in
     elim c.match-look.branch [
       | in-Some-look+in_ok-seek w ↦
           let sought = w.in_ok-seek.ensures.sought in
           let same_weight = w.in-Some-look.ensures.weight in
           let lower = sought.lower in
           rw w.lightest-is (record {
+            most = w.in_ok-seek.ensures.most ∙ w.in-Some-look.ensures.most ∙ so_far.most;
             looked = next_looked p part list k _ _ _ _ _ _ within ordered.on c.requires.part so_far.looked _ _ _ w.in-Some-look.ensures.counted w.in-Some-look.ensures.longer (ap (λ types. length types.items) w.in-Some-look.ensures.types) w.in_ok-seek.ensures.looked;
             sought = sought_more p weights c.args.lightest.now c.loop-k.lightest c.look.new.self w.seek.new.lightest so_far.sought w.in-Some-look.ensures.types same_weight sought;
             settled = settled_more p weights front list k c.loop-k.lightest w.seek.new.lightest left (omega (arith, lower, same_weight)) so_far.settled
@@ -83,6 +85,7 @@ loop-k-preserved t c =
       | in_default-look w ↦
           let same_weight = w.in_default-look.ensures.weight in
           rw w.lightest-is (record {
+            most = w.in_default-look.ensures.most ∙ so_far.most;
             looked = next_none p part list k _ _ _ _ within ordered.on c.requires.part so_far.looked _ _ w.in_default-look.ensures.counted (ap (λ types. length types.items) w.in_default-look.ensures.types);
             sought = sought_same p weights c.args.lightest.now c.loop-k.lightest c.look.new.self so_far.sought w.in_default-look.ensures.types same_weight;
             settled = settled_more p weights front list k c.loop-k.lightest c.look.new.self left (omega (arith, same_weight)) so_far.settled

@@ -1,4 +1,4 @@
-use Rattle.std.proofs.Common.{◌≡◌, ◌≢◌, ◌<◌, inl, inr, ap, arith, length, rules, subst, sym, ◌∙◌, List, ℕ}
+use Rattle.std.proofs.Common.{◌≡◌, ◌≢◌, ◌<◌, inl, inr, ap, arith, length, refl, rules, subst, sym, ◌∙◌, List, ℕ}
 use Rattle.rp_generated.specs.InnerLooks.{NoneBegins}
 use Rattle.rp_patch.specs.Types.{IsRationalType}
 use Rattle.rp_generated.proofs.RoundLaws.{ok_so, same_types, type_taken}
@@ -23,6 +23,7 @@ returns-then-partial-budgets-clause-types t c =
 
 pub loop-i-init : goal.loop-i-init
 loop-i-init t c = record {
+  most = refl;
   looked = start_looking c.args.patches.now (taken_in c.args.partial.now) (λ i. i) (length c.args.patches.now.patches) c.args.light.now.steps (length c.args.light.now.types.items);
   types = λ are. are;
   decided = λ none. inr (λ h l. absurd (omega (arith, l)));
@@ -40,6 +41,7 @@ loop-i-preserved t c =
     elim c.if-budget_of-partial.branch [
       | then-budget_of-partial+in-Some+in_ok-seek_plainly w ↦
           rw w.light-is (record {
+            most = w.in_ok-seek_plainly.ensures.most ∙ w.look_plainly.ensures.most ∙ so_far.most;
             looked = plain_looked p part (length p.patches) i _ _ _ _ _ _ inside inside (sym c.budget_of.ensures.exact ∙ w.if-budget_of-partial.true) c.requires so_far.looked _ _ _
                 w.look_plainly.ensures.counted w.in-Some.ensures.longer (ap (λ types. length types.items) w.look_plainly.ensures.types) w.in_ok-seek_plainly.ensures.looked;
             types = λ are. w.in_ok-seek_plainly.ensures.types (same_types p _ _ w.look_plainly.ensures.types (so_far.types are));
@@ -53,6 +55,7 @@ loop-i-preserved t c =
           })
       | then-budget_of-partial+in_default w ↦
           rw w.light-is (record {
+            most = w.look_plainly.ensures.most ∙ so_far.most;
             looked = plain_none p part (length p.patches) i _ _ _ _ inside inside (sym c.budget_of.ensures.exact ∙ w.if-budget_of-partial.true) c.requires so_far.looked _ _
                 w.look_plainly.ensures.counted (ap (λ types. length types.items) w.look_plainly.ensures.types);
             types = λ are. same_types p _ _ w.look_plainly.ensures.types (so_far.types are);
@@ -63,6 +66,7 @@ loop-i-preserved t c =
           })
       | else-budget_of-partial w ↦
           rw w.light-is (record {
+            most = so_far.most;
             looked = passed_over p front (λ k. k) (length p.patches) i _ _ _ _ so_far.looked;
             types = so_far.types;
             decided = λ none. elim (so_far.decided none) [
