@@ -18,9 +18,9 @@ use Rattle.rp_report.specs.RandomText.{random_report_text}
 
 -- the one item proves its verdict over all rational types, shows the greatest share and says so of persons, the checker
 -- accepts it within its steps, and the text of the certificate is read back as the same. Where it is withheld, the steps
--- that are told were made by searches, and these are spent, or there is no rational type, or the rounds over the types
--- that were found ended without evidence. How a mixture is found is not stated here
-pub record IsGeneratedAnswer (p : PatchList) (certificate : Certificate) : Type 0 where
+-- that are told were made by searches, and they are as many as may be made, or there is no rational type, or the rounds
+-- over the types that were found ended without evidence. How a mixture is found is not stated here
+pub record IsGeneratedAnswer (most : ℕ) (p : PatchList) (certificate : Certificate) : Type 0 where
   pub evidence : RandomPart
   pub item : certificate ≡ random_certificate p.total evidence
   pub proves : ProvesRandom p p.total evidence
@@ -28,10 +28,10 @@ pub record IsGeneratedAnswer (p : PatchList) (certificate : Certificate) : Type 
   pub says : SaysOfChoices p evidence
   pub accepted : IsRandomCheckVerdictWithin p certificate.items STEPS Accepted
   pub read_back : IsReadBack RandomKind certificate
-  pub steps : WithheldAt evidence (IsWithheldAfter p)
+  pub steps : WithheldAt evidence (IsWithheldAfter p most)
 
 -- the text is that of such a certificate
-abbrev pub IsGeneratedText : Bool → PatchList → List ℕ → Type 0
-IsGeneratedText json p text =
-    (certificate : Certificate) × IsGeneratedAnswer p certificate
+abbrev pub IsGeneratedText : Bool → ℕ → PatchList → List ℕ → Type 0
+IsGeneratedText json most p text =
+    (certificate : Certificate) × IsGeneratedAnswer most p certificate
     × (text ≡ (if json then certificate_text certificate else random_report_text p None certificate.items))

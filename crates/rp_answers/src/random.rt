@@ -4,6 +4,7 @@ ghost use Rattle.rp_answers.specs.ChoicesText.{IsChoicesText};
 ghost use Rattle.rp_answers.specs.GeneratedText.{IsGeneratedAnswer, IsGeneratedText};
 ghost use Rattle.rp_answers.specs.RandomText.{IsRandomAnswer, IsRandomText};
 ghost use Rattle.rp_answers.specs.Typed.{AreTyped, AreTypedIfListed, typed};
+ghost use Rattle.rp_generated.specs.Steps.{IsMostSteps};
 
 use rp_evidence::Certificate;
 use rp_generated::generated;
@@ -16,19 +17,21 @@ use rp_types::Rational;
 use std::alloc::Global;
 
 /// The report on choices from budgets, or its certificate as JSON: by all their rational types where these are listed,
-/// else by types that are generated.
+/// else by types that are generated, by searches of at most `most` steps.
 pub fn random_text(
     alloc: Global,
     patches: &Patches,
     types: &Option<Seq<Rational>>,
     json: bool,
+    most: u64,
 ) -> Result<Vec<u8>, NoMemory>
-    requires { AreTypedIfListed patches.now types.now }
-    ensures { IfOk result (λ text. IsChoicesText json patches.now types.now text.items) }
+    requires typed { AreTypedIfListed patches.now types.now }
+    requires most { IsMostSteps most }
+    ensures { IfOk result (λ text. IsChoicesText json most patches.now types.now text.items) }
 {
     match types {
         Some(types) => listed_text(alloc, patches, types, json),
-        None => generated_text(alloc, patches, json),
+        None => generated_text(alloc, patches, json, most),
     }
 }
 
@@ -75,10 +78,16 @@ fn random_answer(
 }
 
 /// The report on choices whose rational types are not listed, or its certificate as JSON.
-fn generated_text(alloc: Global, patches: &Patches, json: bool) -> Result<Vec<u8>, NoMemory>
-    ensures { IfOk result (λ text. IsGeneratedText json patches.now text.items) }
+fn generated_text(
+    alloc: Global,
+    patches: &Patches,
+    json: bool,
+    most: u64,
+) -> Result<Vec<u8>, NoMemory>
+    requires { IsMostSteps most }
+    ensures { IfOk result (λ text. IsGeneratedText json most patches.now text.items) }
 {
-    let certificate = generated_answer(alloc, patches)?;
+    let certificate = generated_answer(alloc, patches, most)?;
     if json {
         write(alloc, &certificate)
     } else {
@@ -87,11 +96,12 @@ fn generated_text(alloc: Global, patches: &Patches, json: bool) -> Result<Vec<u8
 }
 
 /// The certificate on choices whose rational types are not listed.
-fn generated_answer(alloc: Global, patches: &Patches) -> Result<Certificate, NoMemory>
-    ensures { IfOk result (IsGeneratedAnswer patches.now) }
+fn generated_answer(alloc: Global, patches: &Patches, most: u64) -> Result<Certificate, NoMemory>
+    requires { IsMostSteps most }
+    ensures { IfOk result (IsGeneratedAnswer most patches.now) }
 {
     prove!(patches.budgets() >= 1);
-    let evidence = generated(alloc, patches)?;
+    let evidence = generated(alloc, patches, most)?;
     let certificate = Certificate::of_random(alloc, patches.total(), evidence)?;
     Ok(certificate)
 }

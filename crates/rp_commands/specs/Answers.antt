@@ -21,6 +21,7 @@ use Rattle.rp_answers.specs.PumpText.{IsPumpText}
 use Rattle.rp_answers.specs.CostText.{IsCostTextBy}
 use Rattle.rp_answers.specs.PowerText.{IsPowerText}
 use Rattle.rp_answers.specs.Printed.{Printed, as_stated}
+use Rattle.rp_generated.specs.declared.generated_verdict.TheConstants.{SEARCH_STEPS}
 use Rattle.rp_command_line.specs.CommandLine.{Arguments, Line, files_of, file_at, number}
 use Rattle.rp_command_line.specs.declared.commands.Command.{Command}
 use Rattle.rp_command_line.specs.declared.commands.Command.TheVariants.{Pairs, Analyse, Certify, Check, Demand, Welfare}
@@ -57,7 +58,7 @@ IsTextBy printed Welfare arguments (contents.TableAndPrices table new) text =
     IsWelfareTextBy printed arguments.json table new text
 IsTextBy printed Utility arguments (contents.TableAndBundles table bundles) text = IsUtilityText table bundles text
 IsTextBy printed Random arguments (contents.Choices patches types) text =
-    IsChoicesText arguments.json patches types text
+    IsChoicesText arguments.json SEARCH_STEPS patches types text
 IsTextBy printed Patches arguments (contents.Choices patches types) text = IsPatchesText patches text
 IsTextBy printed Trial arguments contents.Nothing text =
     IsTrialTextBy printed (number arguments 0) (number arguments 1) (number arguments 2) text

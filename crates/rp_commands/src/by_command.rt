@@ -17,6 +17,7 @@ use rp_answers::{
     patches_text, random_text, utility_text, welfare_text,
 };
 use rp_command_line::Line;
+use rp_generated::SEARCH_STEPS;
 use rp_num::NoMemory;
 use rp_outside::Desk;
 use std::alloc::Global;
@@ -98,7 +99,7 @@ pub(crate) fn answer_random<'a, P: Edition, D: Desk>(
         (D.bytes desk.old) (named_line line.now) answer.status answer.text.items) result }
 {
     let (patches, types) = load_patches::<P, D>(alloc, desk, line)?;
-    done(random_text(alloc, &patches, &types, line.arguments.json))
+    done(random_text(alloc, &patches, &types, line.arguments.json, SEARCH_STEPS))
 }
 
 /// The answer of `CheckRandom`: the check of a certificate on choices.

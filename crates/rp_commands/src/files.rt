@@ -28,7 +28,7 @@ use std::alloc::Global;
 
 /// Why a line has no input.
 #[derive(Drop)]
-pub(crate) enum Cause<'a> {
+pub enum Cause<'a> {
     /// This file could not be read.
     Read(&'a str),
     /// The line that tells what is refused.
@@ -56,7 +56,7 @@ pub(crate) fn load_certificate<'a, D: Desk>(
 }
 
 /// What a file of numbers of this kind holds.
-pub(crate) fn load_numbers<'a, D: Desk, K: FileKind>(
+pub fn load_numbers<'a, D: Desk, K: FileKind>(
     alloc: Global,
     desk: &mut D,
     file: &'a str,

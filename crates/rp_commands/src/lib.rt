@@ -15,9 +15,11 @@ mod telling;
 mod told;
 mod units;
 
+pub use files::{Cause, load_numbers};
 pub use laws::{
     bytes_denote_one_input_or_refusal, listed_choices_are_denoted_alike,
     patches_are_of_choices_in_files,
 };
+pub use patches::patches_by;
 pub use rp_answers::{Status, trial_table};
 pub use running::run_edition;

@@ -35,7 +35,25 @@ pub(crate) fn patches_of<'a, P: Edition>(
     ensures caused { IfErr result
         (IsReadingCause (TypedPatchesOf P.printed.limits budgets.now choices.now per)) }
 {
-    let limits = P::limits();
+    patches_by(alloc, budgets, choices, per, P::limits())
+}
+
+/// The same by these limits of choices.
+pub fn patches_by<'a>(
+    alloc: Global,
+    budgets: &Budgets,
+    choices: &Choices,
+    per: Option<u32>,
+    limits: ChoiceLimits,
+) -> Result<(Patches, Option<Seq<Rational>>), Cause<'a>>
+    requires from { AreChoicesFrom budgets.now choices.now }
+    requires unit { IsUnit per }
+    ensures made { IfOk result (λ both.
+        TypedPatchesOf limits budgets.now choices.now per (Ok (both.0, both.1))) }
+    ensures typed { IfOk result (λ both. AreTypedIfListed both.0 both.1) }
+    ensures caused { IfErr result
+        (IsReadingCause (TypedPatchesOf limits budgets.now choices.now per)) }
+{
     let made = match patches_within(alloc, budgets, choices, per, limits.most_patches()) {
         Ok(made) => made,
         Err(fault) => return Err(patches_refused(alloc, fault)),

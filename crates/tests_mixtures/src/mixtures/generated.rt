@@ -1,9 +1,12 @@
 //! Mixtures of rational types that are generated, and where there is none.
 use crate::mixtures::told::{Ask, assert_each, share_text};
+use rp_evidence::RandomPart;
 use rp_generated::{SEARCH_STEPS, generated};
 use rp_limits::generated::PATCHES;
+use rp_patch::Patches;
 use rp_patch::of_choices::patches_within;
 use rp_text::{read_budgets, read_choices};
+use std::alloc::Global;
 use std::test::Fail;
 use tests_inputs::choices::{CROSSED, ONE_BUDGET};
 
@@ -70,16 +73,47 @@ fn more_types_than_are_listed(rt: HostRuntime) -> Result<(), Fail> {
     assert_each(&rt, rt.alloc(), Ask::GeneratedShare, MANY, ON_MANY)
 }
 
+/// The patches of the drawn choices: 70, more than are listed, on eight budgets.
+fn drawn(alloc: Global) -> Result<Patches, Fail> {
+    let budgets = read_budgets(alloc, DRAWN.as_bytes())?;
+    let choices = read_choices(alloc, ON_DRAWN.as_bytes(), &budgets)?;
+    Ok(patches_within(alloc, &budgets, &choices, None, PATCHES)?)
+}
+
 /// There are 351,439 rational types on these patches. The greatest share is 17/20, as a program over all of them has it
 /// in floating point.
 #[test]
 fn more_patches_than_are_listed(rt: HostRuntime) -> Result<(), Fail> {
     let alloc = rt.alloc();
-    let budgets = read_budgets(alloc, DRAWN.as_bytes())?;
-    let choices = read_choices(alloc, ON_DRAWN.as_bytes(), &budgets)?;
-    let made = patches_within(alloc, &budgets, &choices, None, PATCHES)?;
+    let made = drawn(alloc)?;
     let part = generated(alloc, &made, SEARCH_STEPS)?;
     assert_eq!(rt; made.count(), 70);
+    let told = share_text(alloc, &part, made.total())?;
+    assert!(rt; told.as_str() == "violated, 17 and 0 left of 20", "{told}");
+    Ok(())
+}
+
+/// A type takes a look at a patch of each of the eight budgets. So fewer steps find none, and all of them are made.
+#[test]
+fn few_steps_are_all_made(rt: HostRuntime) -> Result<(), Fail> {
+    let alloc = rt.alloc();
+    let made = drawn(alloc)?;
+    for most in 0..8 {
+        let made_steps = match generated(alloc, &made, most)? {
+            RandomPart::Wide { step } => Some(step),
+            _ => None,
+        };
+        assert_eq!(rt; made_steps, Some(most));
+    }
+    Ok(())
+}
+
+/// A limit that is not reached changes nothing.
+#[test]
+fn ample_steps_change_nothing(rt: HostRuntime) -> Result<(), Fail> {
+    let alloc = rt.alloc();
+    let made = drawn(alloc)?;
+    let part = generated(alloc, &made, SEARCH_STEPS / 64)?;
     let told = share_text(alloc, &part, made.total())?;
     assert!(rt; told.as_str() == "violated, 17 and 0 left of 20", "{told}");
     Ok(())

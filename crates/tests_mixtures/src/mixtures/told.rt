@@ -175,7 +175,11 @@ fn told_of(alloc: Global, ask: Ask, made: &Patches) -> Result<String, Fail>
         Ask::Types | Ask::Counts => Ok(told_types(alloc, ask, made)?),
         Ask::Evidence => told_evidence(alloc, made),
         Ask::Generated => Ok(evidence_text(alloc, &generated(alloc, made, SEARCH_STEPS)?)?),
-        Ask::GeneratedShare => Ok(share_text(alloc, &generated(alloc, made, SEARCH_STEPS)?, made.total())?),
+        Ask::GeneratedShare => Ok(share_text(
+            alloc,
+            &generated(alloc, made, SEARCH_STEPS)?,
+            made.total(),
+        )?),
     }
 }
 

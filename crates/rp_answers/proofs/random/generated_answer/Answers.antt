@@ -10,7 +10,7 @@ use Rattle.rp_evidence.specs.declared.certificate.Certificate.{Certificate}
 use Rattle.rp_evidence.specs.declared.certificate.Kind.TheVariants.{Random as RandomKind}
 use Rattle.rp_evidence.specs.declared.random.RandomPart.{RandomPart}
 use Rattle.rp_evidence.specs.declared.random.RandomPart.TheVariants.{Wide}
-use Rattle.rp_generated.specs.Steps.{IsWithheldAfter, WithheldAt}
+use Rattle.rp_generated.specs.Steps.{IsMostSteps, IsWithheldAfter, WithheldAt}
 use Rattle.rp_json_entries.specs.Reading.{FitsLong}
 use Rattle.rp_limits.specs.declared.generated.TheConstants.{STEPS}
 use Rattle.rp_patch.specs.Patches.{PatchList}
@@ -22,8 +22,8 @@ one_passes p part passes zero within other = passes
 one_passes p part passes (suc k) within other = absurd (omega (arith, within))
 
 -- a number of steps is one of 64 bits
-steps_are_long : (p : PatchList) (step : ℕ) → IsWithheldAfter p step → FitsLong step
-steps_are_long p step made = let half = made.half in omega (arith, half)
+steps_are_long : (p : PatchList) (most step : ℕ) → IsMostSteps most → IsWithheldAfter p most step → FitsLong step
+steps_are_long p most step half made = let within = made.within in omega (arith, half, within)
 
 pub returns : goal.returns
 returns c =
@@ -31,7 +31,7 @@ returns c =
     let evidence = c.in_ok-evidence.evidence in
     let found = c.in_ok-evidence.ensures in
     let item : c.in_ok-certificate.certificate ≡ random_certificate p.total evidence = c.in_ok-certificate.ensures ∙ ap (λ total. random_certificate total evidence) c.total.ensures in
-    let long = λ (step : ℕ) (is : evidence ≡ Wide step). steps_are_long p step (subst (λ (part : RandomPart). WithheldAt part (IsWithheldAfter p)) is found.steps) in
+    let long = λ (step : ℕ) (is : evidence ≡ Wide step). steps_are_long p c.args.most step c.requires (subst (λ (part : RandomPart). WithheldAt part (IsWithheldAfter p c.args.most)) is found.steps) in
     record {
       evidence = evidence;
       item = item;

@@ -11,10 +11,10 @@ report_random-requires-clause-nothing_wrong c = λ k d within.
 
 pub returns-then-json : goal.returns-then-json
 returns-then-json c =
-    if_ok c.write.result (λ text same. subst (λ (json : Bool). IsGeneratedText json c.args.patches.now text.items) (sym c.if-json.true)
+    if_ok c.write.result (λ text same. subst (λ (json : Bool). IsGeneratedText json c.args.most c.args.patches.now text.items) (sym c.if-json.true)
     (c.in_ok-certificate.certificate, c.in_ok-certificate.ensures, same)) c.write.ensures
 
 pub returns : goal.returns
 returns c =
-    if_ok c.report_random.result (λ text same. subst (λ (json : Bool). IsGeneratedText json c.args.patches.now text.items) (sym c.if-json.false)
+    if_ok c.report_random.result (λ text same. subst (λ (json : Bool). IsGeneratedText json c.args.most c.args.patches.now text.items) (sym c.if-json.false)
     (c.in_ok-certificate.certificate, c.in_ok-certificate.ensures, same)) c.report_random.ensures
