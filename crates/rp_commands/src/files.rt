@@ -56,7 +56,7 @@ pub(crate) fn load_certificate<'a, D: Desk>(
 }
 
 /// What a file of numbers of this kind holds.
-pub fn load_numbers<'a, D: Desk, K: FileKind>(
+pub(crate) fn load_numbers<'a, D: Desk, K: FileKind>(
     alloc: Global,
     desk: &mut D,
     file: &'a str,

@@ -15,7 +15,7 @@ mod telling;
 mod told;
 mod units;
 
-pub use files::{Cause, load_numbers};
+pub use files::Cause;
 pub use laws::{
     bytes_denote_one_input_or_refusal, listed_choices_are_denoted_alike,
     patches_are_of_choices_in_files,

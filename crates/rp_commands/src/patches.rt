@@ -38,7 +38,8 @@ pub(crate) fn patches_of<'a, P: Edition>(
     patches_by(alloc, budgets, choices, per, P::limits())
 }
 
-/// The same by these limits of choices.
+/// The patches of choices from budgets by these limits, with so many units on each budget where that is asked for, and their
+/// rational types where these are listed.
 pub fn patches_by<'a>(
     alloc: Global,
     budgets: &Budgets,
