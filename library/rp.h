@@ -70,8 +70,9 @@ int32_t rp_answer(
 /*
  * Answers the words of a command line as `rp-wide` does: what `rp_answer` would withhold is given wherever evidence of
  * it is found past the numbers that it keeps, and choices from budgets are taken that it refuses for their patches or
- * types, up to 256 patches. It also answers the words that begin with `fit` or `checkfit`, which `rp_answer` does not
- * take: fit TABLE [--json] and checkfit TABLE CERT, as docs/reference/rp-fit.md describes. All else is the same.
+ * types, up to 256 patches. It also answers words that `rp_answer` does not take: fit TABLE [--json] and
+ * checkfit TABLE CERT, as docs/reference/rp-fit.md describes, and random with --steps N, as docs/reference/rp-random.md
+ * does. All else is the same.
  * Arguments, ownership, threads and statuses are those of `rp_answer`.
  */
 int32_t rp_answer_wide(
@@ -103,7 +104,7 @@ int32_t rp_panel(
 
 /*
  * Tells which files the words of a command line name, so that they can be read and given to `rp_answer` or
- * `rp_answer_wide`, which take the same words; those of `fit` and `checkfit` are for `rp_answer_wide` alone.
+ * `rp_answer_wide`, which take the same words; those of `fit`, `checkfit` and `--steps` are for `rp_answer_wide` alone.
  *
  * `words` are framed as above. The names go to `names` in the order of the words, each ended by a zero byte, as far as
  * there is room; a name that the words have twice is told twice. `names_length` takes how long all of them are, also

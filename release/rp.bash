@@ -19,8 +19,11 @@ _rp() {
     trial) return ;;
     # end of options
   esac
+  # options of rp-wide: made by tools/make/catalogue
+  case ${COMP_WORDS[0]},${COMP_WORDS[1]} in *rp-wide,random) options="$options --steps" ;; esac
+  # end of options of rp-wide
   case ${COMP_WORDS[0]} in *rp-wide) options="$options --help" ;; esac
-  if [ "$before" = --per ]; then
+  if [[ $before = --per || $before = --steps ]]; then
     return
   elif [[ $word == -* ]]; then
     mapfile -t COMPREPLY < <(compgen -W "$options" -- "$word")

@@ -39,6 +39,7 @@ complete -c rp-wide -n '__fish_seen_subcommand_from demand welfare fit' -l json
 complete -c rp-wide -n '__fish_seen_subcommand_from random' -l per -x
 complete -c rp-wide -n '__fish_seen_subcommand_from random' -l json
 complete -c rp-wide -n '__fish_seen_subcommand_from checkrandom patches menus' -l per -x
+complete -c rp-wide -n '__fish_seen_subcommand_from random' -l steps -x
 complete -c rp-wide -l help
 complete -c rp-wide -l version
 complete -c rp-panel -l id -x -d 'the column of ids; household by default'

@@ -45,7 +45,7 @@ _rp() {
   case $words[2] in
     demand) _arguments '--json[a certificate in place of a report]' '*:file:_files' ;;
     welfare) _arguments '--json[a certificate in place of a report]' '*:file:_files' ;;
-    random) _arguments '--per[so many units on each budget or menu]:N: ' '--json[a certificate in place of a report]' '*:file:_files' ;;
+    random) local -a wide=(); [[ $service == rp-wide ]] && wide=('--steps[so many steps of searches at most]:N: '); _arguments $wide '--per[so many units on each budget or menu]:N: ' '--json[a certificate in place of a report]' '*:file:_files' ;;
     checkrandom) _arguments '--per[so many units on each budget or menu]:N: ' '*:file:_files' ;;
     patches) _arguments '--per[so many units on each budget or menu]:N: ' '*:file:_files' ;;
     menus) _arguments '--per[so many units on each budget or menu]:N: ' '*:file:_files' ;;

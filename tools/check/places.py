@@ -122,6 +122,12 @@ def of_documents(facts):
         yield Place(page, "usage", {it["name"]: rf"^rp-wide {quoted(it['usage'])}(?: >.*)?$"})
         yield Place(page, "sessions", {it["name"]: rf"^\$ \./rp-wide {it['name']} "})
         yield Place("release/rp-wide.1", "commands", {it["name"]: rf"^\.B[IR]? {it['name']}\b"})
+    for it in facts["wide_options"]:
+        page = f"docs/reference/rp-{it['command']}.md"
+        yield Place("docs/reference/README.md", "commands of rp-wide", {it["usage"]: rf"^\| `rp-wide {quoted(it['usage'])}` \|"})
+        yield Place(page, "usage", {it["usage"]: rf"^rp-wide {quoted(it['usage'])}(?: >.*)?$"})
+        yield Place(page, "options of rp-wide", {it["name"]: rf"^\| `{it['name']} {it['value']}` \|"})
+        yield Place("crates/rp_guide/src/texts.rt", "help pages", {it["usage"]: rf'b"{it["command"]}",\s*b"usage: [^"]*rp-wide {quoted(it["usage"])}\\n'})
     yield from of_errors(facts, told, numbers)
     yield Place("crates/rp_guide/src/texts.rt", "help pages", {it["name"]: rf'b"{it["name"]}",\s*b"usage: rp-wide {quoted(it["usage"])}\\n' for it in [*commands, *facts["wide_commands"]]},
                 all_of(r'^ *b"(\w+)",$'))  # fmt: skip

@@ -139,21 +139,41 @@ def commands():
     return found
 
 
-def wide_commands():
-    """Returns the commands that `rp-wide` has besides those of `rp`, as its usage text has them."""
+WITHIN = "Within"
+
+
+def of_front():
+    """Returns of each kind of words that `rp-wide` takes besides those of `rp` its parts in the usage text, and what it asks."""
     says = variants("rp_fit_answers/src/asked.rt", "Asked")
     usage = need(r'^        b"(usage: [^"]*)"', "rp_fit_run/src/program.rt")[1].replace("\\n", "\n")
     called = [line.removeprefix("usage:").strip() for line in usage.splitlines()]
     added = need(r'^    all\.extend_from_slice\(\s*b"([^"]*)"', "rp_run_wide/src/hinting.rt")[1].replace("\\n", "\n")
     shapes = [re.findall(r"\[[^]]*\]|\S+", line.removeprefix("rp-wide ")) for line in called]
-    if [line.strip() for line in added.splitlines()] != called or [it[0] for it in shapes] != [name.lower() for name in says]:
-        raise Unread("the commands on goodness of fit, their usage texts and what is asked by them are not the same")
+    if [line.strip() for line in added.splitlines()] != called or [it[0] for it in shapes] != [name.removesuffix(WITHIN).lower() for name in says]:
+        raise Unread("the commands of rp-wide alone, their usage texts and what is asked by them are not the same")
+    return [(shape, own, name.endswith(WITHIN)) for shape, (name, own) in zip(shapes, says.items())]
+
+
+def wide_options():
+    """Returns the options that `rp-wide` has for commands of `rp`, each with the words in which it stands: the limit of steps."""
+    steps = need(r"pub const STEPS: u64 = ([^;]+);", "rp_limits/src/generated.rt")[1]
+    half = need(r"pub const SEARCH_STEPS: u64 = STEPS / (\d+);", "rp_generated/src/generated_verdict.rt")[1]
+    most = value_of(steps, {}) // int(half)
+    return [
+        {"command": name, "usage": " ".join([name, *rest]), "name": option, "value": value, "least": 1, "most": whole(most), "says": own}
+        for (name, *rest), own, is_within in of_front() if is_within
+        for option, value in zip(rest, rest[1:]) if option.startswith("--")
+    ]  # fmt: skip
+
+
+def wide_commands():
+    """Returns the commands that `rp-wide` has besides those of `rp`, as its usage text has them."""
     return [
         {
             "name": name, "usage": " ".join([name, *rest]), "files": [it for it in rest if not it.startswith("[")], "numbers": [],
             "options": [{"name": it[1:-1]} for it in rest if it.startswith("[")], "levels": False, "says": own,
         }
-        for (name, *rest), own in zip(shapes, says.values())
+        for (name, *rest), own, is_within in of_front() if not is_within
     ]  # fmt: skip
 
 
@@ -390,6 +410,6 @@ def programs(asked):
 def read():
     refused, told, numbered = faults(), reasons(), statuses()
     return {
-        "commands": commands(), "wide_commands": wide_commands(), "kinds": kinds(), "faults": refused, "limits": limits(), "reasons": told, "statuses": numbered,
+        "commands": commands(), "wide_commands": wide_commands(), "wide_options": wide_options(), "kinds": kinds(), "faults": refused, "limits": limits(), "reasons": told, "statuses": numbered,
         "programs": programs(commands()), "panel_options": panel_options(), "panel_columns": panel_columns(), "certificates": items(), "verdicts": verdicts(), "lines": lines(), "fit_lines": fit_lines(), "hints": hints(refused, told, numbered),
     }  # fmt: skip

@@ -14,8 +14,11 @@ class Unread(Exception):
 def in_font(usage, program):
     """Returns a line of a synopsis with its changes of font."""
     name, *rest = re.findall(r"\[[^]]*\]|\S+", usage)
-    files = [it for it in rest if not it.startswith("[")]
-    line = rf"\fB{program} {name}\fR" + (rf" \fI{' '.join(files)}\fR" if files else "")
+    plain = [it for it in rest if not it.startswith("[")]
+    at = next((at for at, it in enumerate(plain) if it.startswith("--")), len(plain))
+    line = rf"\fB{program} {name}\fR" + (rf" \fI{' '.join(plain[:at])}\fR" if at else "")
+    for option, value in zip(plain[at::2], plain[at + 1 :: 2]):
+        line += rf" \fB{option.replace('-', chr(92) + '-')}\fR \fI{value}\fR"
     for it in rest:
         if it.startswith("["):
             option, *value = it[1:-1].replace("-", r"\-").split()
@@ -100,6 +103,11 @@ def bash_options(found):
     return "".join(f"    {' | '.join(names)}) " + (f'options="{own}" ;;\n' if own else "return ;;\n") for own, names in told.items())
 
 
+def bash_beside(found):
+    own = "".join(f"*rp-wide,{it['command']}) options=\"$options {it['name']}\" ;; " for it in found["wide_options"])
+    return f"  case ${{COMP_WORDS[0]}},${{COMP_WORDS[1]}} in {own}esac\n"
+
+
 def bash_panel(found):
     names = " ".join([*(it["name"] for it in found["panel_options"]), "--help", "--version"])
     return f'    mapfile -t COMPREPLY < <(compgen -W "{names}" -- "$word")\n'
@@ -119,7 +127,7 @@ def zsh_option(name, says, values, repeats=False):
     return f"'{'*' if repeats else ''}{name}[{quoted(says, IN_ZSH)}]{more}'"
 
 
-SAYS = {"--json": "a certificate in place of a report", "--per": "so many units on each budget or menu"}
+SAYS = {"--json": "a certificate in place of a report", "--per": "so many units on each budget or menu", "--steps": "so many steps of searches at most"}
 
 
 def for_zsh(found):
@@ -128,7 +136,11 @@ def for_zsh(found):
     cases = ""
     for it in [*found["commands"], *found["wide_commands"]]:
         own = [zsh_option(one["name"], SAYS[one["name"]], ["N"] if "least" in one else []) for one in it["options"]]
-        cases += f"    {it['name']}) _arguments {' '.join(own)} '*:file:_files' ;;\n" if own else ""
+        more = [zsh_option(one["name"], SAYS[one["name"]], [one["value"]]) for one in found["wide_options"] if one["command"] == it["name"]]
+        if more:
+            cases += f"    {it['name']}) local -a wide=(); [[ $service == rp-wide ]] && wide=({' '.join(more)}); _arguments $wide {' '.join(own)} '*:file:_files' ;;\n"
+        else:
+            cases += f"    {it['name']}) _arguments {' '.join(own)} '*:file:_files' ;;\n" if own else ""
     own = [zsh_option(it["name"], it["says"], it["values"], it["name"] == "--keep") for it in found["panel_options"]]
     panel = "".join(f" \\\n    {it}" for it in own)
     return f"""#compdef rp rp-wide rp-panel
@@ -168,6 +180,7 @@ def for_fish(found):
             for option in own.split():
                 value = " -x" if option == "--per" else ""
                 lines.append(f"complete -c {program} -n '__fish_seen_subcommand_from {' '.join(names)}' -l {option[2:]}{value}")
+    lines += [f"complete -c rp-wide -n '__fish_seen_subcommand_from {it['command']}' -l {it['name'][2:]} -x" for it in found["wide_options"]]
     lines += [f"complete -c rp-wide -l {it}" for it in ("help", "version")]
     for it in found["panel_options"]:
         value = " -r" if it["values"] == ["NEW"] else " -x" if it["values"] else ""
@@ -181,13 +194,14 @@ def for_fish(found):
 
 PARTS = (
     ("release/rp.1", "synopsis", lambda found: synopsis(found["commands"], "rp")),
-    ("release/rp-wide.1", "synopsis", lambda found: synopsis(found["wide_commands"], "rp-wide")),
+    ("release/rp-wide.1", "synopsis", lambda found: synopsis([*found["wide_commands"], *found["wide_options"]], "rp-wide")),
     ("release/rp.1", "exit codes", exit_codes),
     ("release/rp-panel.1", "synopsis", panel_synopsis),
     ("release/rp-panel.1", "options", panel_options),
     ("release/rp.bash", "commands", bash_commands),
     ("release/rp.bash", "words of rp-wide", bash_wide),
     ("release/rp.bash", "options", bash_options),
+    ("release/rp.bash", "options of rp-wide", bash_beside),
     ("release/rp.bash", "options of panels", bash_panel),
     ("docs/reference/limits.md", "sizes", sizes_table),
     ("docs/reference/rp-panel.md", "options", options_table),

@@ -21,7 +21,7 @@ use Rattle.rp_fit_answers.specs.Questions.{CheckFit, Fit}
 use Rattle.rp_fit_answers.proofs.Laws.{begins_unrefused}
 
 -- some content of a file, and some that is too long where no shorter one is known
-some_content : (known : Option (List ℕ)) → AreAll known (unwrap_or known [])
+pub some_content : (known : Option (List ℕ)) → AreAll known (unwrap_or known [])
 some_content None found is = cc is
 some_content (Some bytes) found is = cc is
 
@@ -91,7 +91,7 @@ module _ (files : Files) (name : List ℕ) (json : Bool) where
 
 -- ---- the check of a certificate on a table
 
-abbrev two : List ℕ → List ℕ → ℕ → List ℕ
+abbrev pub two : List ℕ → List ℕ → ℕ → List ℕ
 two first second zero = first
 two first second (suc k) = second
 

@@ -1,4 +1,5 @@
 pub mod CertificateLemmas
+pub mod ChoiceLemmas
 pub mod FileLemmas
 pub mod Laws
 pub mod LoadLemmas

@@ -25,7 +25,7 @@ use Rattle.rp_fit_answers.proofs.FileLemmas.{first_cause, moved_cause, moved_val
 use Rattle.rp_fit_answers.proofs.Laws.{begins_unrefused}
 
 -- the calls for a file, for files of the same contents
-calls_later : (files later : Files) (file : List ℕ) (limit before after : ℕ) → later file ≡ files file → after ≤ before + calls_through limit (later file) → after ≤ before + calls_through limit (files file)
+pub calls_later : (files later : Files) (file : List ℕ) (limit before after : ℕ) → later file ≡ files file → after ≤ before + calls_through limit (later file) → after ≤ before + calls_through limit (files file)
 calls_later files later file limit before after same most = subst (λ known. after ≤ before + calls_through limit known) same most
 
 module _ {D : Type 0} {bytes : D → Files} {faults : D → List ℕ → ℕ} {calls : D → ℕ} {asked : D → Option Reads} where

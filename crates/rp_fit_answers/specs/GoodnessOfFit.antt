@@ -6,10 +6,11 @@ use Rattle.rp_fit_answers.specs.Answers.{AnswersHeld}
 use Rattle.rp_fit_answers.specs.Contents.{ContentsIn, Held}
 use Rattle.rp_fit_answers.specs.Questions.{Question, asked_in, files_of, limits_of}
 
--- how the two commands are called
+-- how the commands are called
 abbrev pub usage_text : List ℕ
 usage_text =
-    codes "usage: rp-wide fit TABLE [--json]" ++ 10 ∷ codes "       rp-wide checkfit TABLE CERT" ++ 10 ∷ []
+    codes "usage: rp-wide fit TABLE [--json]" ++ 10 ∷ codes "       rp-wide checkfit TABLE CERT" ++ 10
+    ∷ codes "       rp-wide random BUDGETS CHOICES --steps N [--per N] [--json]" ++ 10 ∷ []
 
 -- over files of these bytes: the text and the status that answer what they hold; nothing is told beside
 abbrev pub answers : Question → (ℕ → List ℕ) → Status → List ℕ → List ℕ → Type 0

@@ -3,6 +3,8 @@ use Rattle.std.specs.Prelude.{◌≡◌, ◌≢◌, ◌++◌, ℕ, List, [], Opt
 use Rattle.std.specs.Fmt.{decimal}
 use Rattle.rp_outside.specs.Known.{AreAll}
 use Rattle.rp_commands.specs.Readings.{Reading}
+use Rattle.rp_commands.specs.declared.files.Cause.{Cause as LineCause}
+use Rattle.rp_commands.specs.declared.files.Cause.TheVariants as line_cause
 use Rattle.rp_front.specs.Contents.{Files}
 use Rattle.rp_front.specs.declared.answer.Cause.{Cause}
 use Rattle.rp_front.specs.declared.answer.Cause.TheVariants.{Read, Refused, NoMemory}
@@ -51,3 +53,10 @@ HoldsValue files file reading value = (bytes : List ℕ) × AreAll (files file) 
 abbrev pub IsLoaded : {A : Type 0} → Files → (List ℕ → Type 0) → List ℕ → (List ℕ → Reading A) → Result A Cause → Type 0
 IsLoaded files rose file reading result =
     MatchResult result (HoldsValue files file reading) (IsFileCause files rose file reading)
+
+-- a cause of a command of `rp`, as that of a program over the front
+abbrev pub IsSameCause : LineCause → Cause → Type 0
+IsSameCause (line_cause.Read name) (Read file) = file ≡ name
+IsSameCause (line_cause.Refused text) (Refused line) = line ≡ text
+IsSameCause line_cause.NoMemory NoMemory = Unit {0}
+IsSameCause _ _ = ⊥

@@ -6,3 +6,4 @@ pub mod IndicesText
 pub mod InnerCauses
 pub mod InnerLoadings
 pub mod Questions
+pub mod RandomWords

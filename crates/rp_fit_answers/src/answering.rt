@@ -50,7 +50,7 @@ pub fn answer_check<'a, D: Desk>(
 }
 
 /// An answer, or want of memory.
-fn whole<'a>(made: Result<Answer, NoMemory>) -> Result<Answer, Cause<'a>>
+pub(crate) fn whole<'a>(made: Result<Answer, NoMemory>) -> Result<Answer, Cause<'a>>
     ensures { MatchResult result (λ answer. made ≡ Ok answer) (λ why. why ≡ Cause.NoMemory) }
 {
     match made {

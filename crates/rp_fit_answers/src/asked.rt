@@ -1,7 +1,11 @@
-//! What the words of the two commands ask.
-ghost use Rattle.std.specs.Prelude.{◌≡◌, ◌∷◌, [], map, option_map, string_bytes};
-ghost use Rattle.rp_fit_answers.specs.Questions.{asked_in, check_of, is_file_name, json_of, question_of};
-ghost use Rattle.rp_fit_answers.specs.Questions.{report_of};
+//! What the words of the commands ask.
+ghost use Rattle.std.specs.Prelude.{◌≡◌, map, option_map, string_bytes};
+ghost use Rattle.rp_fit_answers.specs.Questions.{RandomWithin, asked_in, check_of, fit_in, json_of};
+ghost use Rattle.rp_fit_answers.specs.Questions.{question_of, report_of};
+ghost use Rattle.rp_fit_answers.specs.RandomWords.{asking_in};
+
+use crate::asking::RandomAsked;
+use crate::random_words::{is_file_name, random_asked};
 
 /// What words ask, with the names of files. A certificate is written where `json` is asked, and else a report.
 #[derive(Drop)]
@@ -16,6 +20,10 @@ pub enum Asked<'w> {
         table: &'w str,
         certificate: &'w str,
     },
+    /// The verdict on random choices within a limit of steps.
+    RandomWithin {
+        own: RandomAsked<'w>,
+    },
 }
 
 /// What words ask, the program's name first.
@@ -23,17 +31,44 @@ pub fn asked_by<'w>(words: &'w [String]) -> Option<Asked<'w>>
     ensures { option_map question_of result ≡ asked_in (map string_bytes words.now) }
 {
     match words {
-        [_, command, table] => {
-            if command.as_str() == "fit" {
+        [_, command, rest @ ..] => {
+            if command.as_str() == "random" {
+                random_by(rest)
+            } else {
+                fit_by(command.as_str(), rest)
+            }
+        }
+        _ => None,
+    }
+}
+
+/// What the words after `random` ask.
+fn random_by<'w>(words: &'w [String]) -> Option<Asked<'w>>
+    ensures { option_map question_of result
+        ≡ option_map RandomWithin (asking_in (map string_bytes words.now)) }
+{
+    match random_asked(words) {
+        Some(own) => Some(Asked::RandomWithin { own }),
+        None => None,
+    }
+}
+
+/// What the words after `fit` or `checkfit` ask.
+fn fit_by<'w>(command: &str, words: &'w [String]) -> Option<Asked<'w>>
+    ensures { option_map question_of result ≡ fit_in command.now (map string_bytes words.now) }
+{
+    match words {
+        [table] => {
+            if command == "fit" {
                 report_of(table.as_str())
             } else {
                 None
             }
         }
-        [_, command, first, second] => {
-            if command.as_str() == "fit" {
+        [first, second] => {
+            if command == "fit" {
                 json_of(first.as_str(), second.as_str())
-            } else if command.as_str() == "checkfit" {
+            } else if command == "checkfit" {
                 check_of(first.as_str(), second.as_str())
             } else {
                 None
@@ -80,14 +115,4 @@ fn check_of<'w>(table: &'w str, certificate: &'w str) -> Option<Asked<'w>>
         return Some(Asked::CheckFit { table, certificate });
     }
     None
-}
-
-/// Whether a word may be a file's name: not empty, and not begun as an option is.
-fn is_file_name(word: &[u8]) -> bool
-    ensures { result ≡ is_file_name word.now }
-{
-    match word {
-        [] => false,
-        [first, ..] => *first != b'-',
-    }
 }

@@ -1,17 +1,33 @@
-//! Which words are those of `fit` or `checkfit`, and the files that they name.
+//! Which words are those of `fit` or `checkfit`, or of `random` with a limit of steps, and the files that they name.
 ghost use Rattle.std.specs.Prelude.{◌≡◌, IfOk, map, option_map, string_bytes};
 ghost use Rattle.rp_fit_answers.specs.Questions.{asked_in, files_of, question_of};
-ghost use Rattle.rp_fit_call.specs.FitWords.{asks_fit};
+ghost use Rattle.rp_fit_call.specs.FitWords.{asks_fit, has_steps};
 
 use rp_fit_answers::{Asked, asked_by};
 use rp_num::NoMemory;
 use std::alloc::Global;
 
-/// Whether the first of the words of a frame is `fit` or `checkfit`: these words are for `answer_fit` and `name_fit_files`.
+/// Whether the words of a frame are for `answer_fit` and `name_fit_files`: the first is `fit` or `checkfit`, or it is
+/// `random`, and one of the others is `--steps`.
 pub fn asks_fit(words: &[u8]) -> bool
     ensures { result ≡ asks_fit words.now }
 {
-    words.starts_with(b"fit\0") || words.starts_with(b"checkfit\0")
+    words.starts_with(b"fit\0")
+        || words.starts_with(b"checkfit\0")
+        || (words.starts_with(b"random\0") && has_steps(words))
+}
+
+/// Whether one of the words behind the first is `--steps`.
+fn has_steps(mut words: &[u8]) -> bool
+    ensures { result ≡ has_steps words.entry.now }
+{
+    while let [_, rest @ ..] = words {
+        if words.starts_with(b"\0--steps\0") {
+            return true;
+        }
+        words = rest;
+    }
+    false
 }
 
 /// The names of the files that words ask for, in their order, or nothing where the words are none that the program takes.
@@ -39,5 +55,6 @@ fn names_of<'a>(alloc: Global, asked: &Asked<'a>) -> Result<Vec<&'a str>, NoMemo
     match asked {
         Asked::Fit { table, .. } => Ok(vec![in alloc; *table]?),
         Asked::CheckFit { table, certificate } => Ok(vec![in alloc; *table, *certificate]?),
+        Asked::RandomWithin { own } => Ok(vec![in alloc; own.budgets(), own.choices()]?),
     }
 }

@@ -1,4 +1,4 @@
-//! The program of the two commands, and its call.
+//! The program of the commands over the front, and its call.
 ghost use Rattle.std.specs.Prelude.{◌≡◌, ◌⊎◌, Some, map, string_bytes};
 ghost use Rattle.rp_outside.specs.Faults.{HasRisen};
 ghost use Rattle.rp_front.specs.Calls.{AnswersUsage, AsksByName, AsksInTurn, IsWritten};
@@ -9,13 +9,14 @@ ghost use Rattle.rp_front.specs.Turns.{AsksForFirst};
 ghost use Rattle.rp_fit_answers.specs.GoodnessOfFit.{goodness_of_fit};
 ghost use Rattle.rp_fit_answers.specs.Questions.{Question, asked_in, question_of};
 
-use rp_fit_answers::{Asked, answer_check, answer_indices, asked_by};
+use rp_fit_answers::{Asked, answer_check, answer_indices, answer_random, asked_by};
 use rp_front::{Answer, Cause, Program, Status, run_program};
 use rp_num::NoMemory;
 use rp_outside::{Desk, Sink};
 use std::alloc::Global;
 
-/// The program: the indices of goodness of fit of a table, and the check of a certificate on them.
+/// The program: the indices of goodness of fit of a table, the check of a certificate on them, and the verdict on random
+/// choices within a limit of steps.
 pub struct GoodnessOfFit;
 
 impl<'w> Program<'w> for GoodnessOfFit {
@@ -36,7 +37,7 @@ impl<'w> Program<'w> for GoodnessOfFit {
     fn usage() -> &'static [u8]
         ensures { result.now ≡ goodness_of_fit.usage }
     {
-        b"usage: rp-wide fit TABLE [--json]\n       rp-wide checkfit TABLE CERT\n"
+        b"usage: rp-wide fit TABLE [--json]\n       rp-wide checkfit TABLE CERT\n       rp-wide random BUDGETS CHOICES --steps N [--per N] [--json]\n"
     }
 
     fn read(_alloc: Global, words: &'w [String]) -> Result<Option<Asked<'w>>, NoMemory> {
@@ -53,6 +54,7 @@ impl<'w> Program<'w> for GoodnessOfFit {
             Asked::CheckFit { table, certificate } => {
                 answer_check(alloc, desk, table, certificate)
             }
+            Asked::RandomWithin { own } => answer_random(alloc, desk, own),
         }
     }
 
@@ -65,8 +67,8 @@ impl<'w> Program<'w> for GoodnessOfFit {
     ghost never_both = { never_both };
 }
 
-/// Answers the words of a command line that ask for indices of goodness of fit, or for the check of a certificate on them,
-/// over the files of a desk. The answer goes to `out`, and the reason why there is none to `err`, whose failures change
+/// Answers the words of a command line that ask for indices of goodness of fit, for the check of a certificate on them, or for
+/// the verdict on random choices within a limit of steps, over the files of a desk. The answer goes to `out`, and the reason why there is none to `err`, whose failures change
 /// no status. Where hints are wanted, a line after each error says what to do.
 pub fn run_fit<D: Desk, O: Sink, E: Sink>(
     alloc: Global,

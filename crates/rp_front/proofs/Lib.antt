@@ -1,3 +1,4 @@
 pub mod GainsLemmas
+pub mod NumberLemmas
 pub mod RunLemmas
 pub mod TurnLemmas

@@ -6,4 +6,5 @@ pub mod Gains
 pub mod InnerCauses
 pub mod Lines
 pub mod Meaning
+pub mod Numbers
 pub mod Turns

@@ -4,12 +4,14 @@
 
 mod answer;
 mod ending;
+mod number;
 mod program;
 mod running;
 mod status;
 mod telling;
 
 pub use answer::{Answer, Cause};
+pub use number::number_in;
 pub use program::Program;
 pub use running::run_program;
 pub use status::Status;

@@ -59,6 +59,7 @@ pub(crate) const WIDE_PAGES: [(&[u8], &[u8]); 18] = [
             \x20      rp-wide power TABLE SEED N\n\
             \x20      rp-wide fit TABLE [--json]\n\
             \x20      rp-wide checkfit TABLE CERT\n\
+            \x20      rp-wide random BUDGETS CHOICES --steps N [--per N] [--json]\n\
             \x20      rp-wide COMMAND --help\n\
             \x20      rp-wide --help\n\
             \x20      rp-wide --version\n\
@@ -208,6 +209,7 @@ pub(crate) const WIDE_PAGES: [(&[u8], &[u8]); 18] = [
     (
         b"random",
         b"usage: rp-wide random BUDGETS CHOICES [--per N] [--json]\n\
+            \x20      rp-wide random BUDGETS CHOICES --steps N [--per N] [--json]\n\
             \n\
             Tests whether a population of utility maximizers could have made the observed choices\n\
             (random utility).\n\
@@ -215,6 +217,8 @@ pub(crate) const WIDE_PAGES: [(&[u8], &[u8]); 18] = [
             BUDGETS   a CSV file with a row for each budget: p_NAME for each good, and the income w\n\
             CHOICES   a CSV file with a row for each choice: q_NAME for each good, budget, and n people\n\
             --per N   round the shares of each budget to N parts, if their common denominator is too large\n\
+            --steps N  stop the searches after N steps, from 1 to 34359738368: a result that is not found by\n\
+            \x20         then is undetermined. Without it they stop after 34359738368 steps, which may take an hour\n\
             --json    write a certificate instead of the report\n",
     ),
     (

@@ -1,4 +1,3 @@
-pub mod Numbers
 pub mod Questions
 pub mod Told
 pub mod Endings

@@ -16,7 +16,7 @@ use Rattle.rp_bound_rows_wide.specs.FilledBounds.{IsGivenDemand, IsGivenWelfare}
 use Rattle.rp_rows.specs.Verdicts.{given_as_stated}
 use Rattle.rp_rows.specs.declared.asked.Asked.{Asked}
 use Rattle.rp_rows_wide.specs.FilledTest.{IsGivenFilled}
-use Rattle.rp_panel_run.specs.Numbers.{number_in}
+use Rattle.rp_front.specs.Numbers.{number_in}
 use Rattle.rp_panel_run.specs.declared.question.Awaited.{Awaited}
 use Rattle.rp_panel_run.specs.declared.question.Awaited.TheVariants as wait
 use Rattle.rp_panel_run.specs.declared.question.Named.{Named}

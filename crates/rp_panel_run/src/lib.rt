@@ -4,7 +4,6 @@
 mod answer;
 mod helping;
 mod laws;
-mod number;
 mod program;
 mod question;
 mod running;

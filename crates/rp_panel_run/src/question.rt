@@ -8,8 +8,8 @@ ghost use Rattle.rp_panel_run.specs.Questions.{is_file_name, is_whole};
 ghost use Rattle.rp_panel_run.specs.Questions.{more_asked, named_option, next_taken, nothing_read};
 ghost use Rattle.rp_panel_run.specs.Questions.{option_taken, taken};
 
-use crate::number::number_in;
 use rp_bound_rows::BoundsAsked;
+use rp_front::number_in;
 use rp_limits::command_line::MOST_DRAWS;
 use rp_num::NoMemory;
 use rp_rows::{Asked, Draws};

@@ -1,6 +1,6 @@
--- What a call of the program `rp-wide` promises of words that begin with `fit` or `checkfit`: the clauses of `run_fit`, with
--- hints.
-use Rattle.std.specs.Prelude.{◌≡◌, ◌⊎◌, ◌||◌, ℕ, Bool, true, false, List, [], ◌∷◌, Option, Some, codes}
+-- What a call of the program `rp-wide` promises of words that begin with `fit` or `checkfit`, or with `random` and a limit
+-- of steps: the clauses of `run_fit`, with hints.
+use Rattle.std.specs.Prelude.{◌≡◌, ◌⊎◌, ◌||◌, ◌&&◌, ℕ, Bool, true, false, List, [], ◌∷◌, Option, Some, codes}
 use Rattle.std.specs.Str.{bytes_eq}
 use Rattle.rp_outside.specs.Faults.{HasRisen}
 use Rattle.rp_guide.specs.Gains.{SinkChange}
@@ -16,10 +16,17 @@ use Rattle.rp_front.specs.declared.status.Status.{Status as FrontStatus}
 use Rattle.rp_front.specs.declared.status.Status.TheVariants.{Done, Rejected, Usage, ReadFault, Refused, WriteFault, NoMemory}
 use Rattle.rp_run_wide.specs.Helping.{DeskChange}
 
--- the first word after the program's name is `fit` or `checkfit`
-abbrev pub begins_fit : List (List ℕ) → Bool
-begins_fit (name ∷ command ∷ words) = bytes_eq command (codes "fit") || bytes_eq command (codes "checkfit")
-begins_fit _ = false
+-- one of the words is `--steps`
+abbrev pub has_steps : List (List ℕ) → Bool
+has_steps [] = false
+has_steps (word ∷ words) = bytes_eq word (codes "--steps") || has_steps words
+
+-- the first word after the program's name is `fit` or `checkfit`; or it is `random`, and a later one is `--steps`
+abbrev pub are_for_fit : List (List ℕ) → Bool
+are_for_fit (name ∷ command ∷ words) =
+    bytes_eq command (codes "fit")
+    || (bytes_eq command (codes "checkfit") || (bytes_eq command (codes "random") && has_steps words))
+are_for_fit _ = false
 
 -- a status as that of the programs over the front
 abbrev pub front_status : Status → FrontStatus

@@ -47,11 +47,13 @@ status_code NoMemory line = codes "NoMemory"
 abbrev pub with_hint : Status → List ℕ → List ℕ
 with_hint status line = line ++ hint_line (status_code status line)
 
--- how the two commands on goodness of fit are called, in the usage text
+-- how the commands of `run_fit` are called, in the usage text
 abbrev pub fit_calls : List ℕ
-fit_calls = codes "       rp-wide fit TABLE [--json]" ++ 10 ∷ codes "       rp-wide checkfit TABLE CERT" ++ 10 ∷ []
+fit_calls =
+    codes "       rp-wide fit TABLE [--json]" ++ 10 ∷ codes "       rp-wide checkfit TABLE CERT" ++ 10
+    ∷ codes "       rp-wide random BUDGETS CHOICES --steps N [--per N] [--json]" ++ 10 ∷ []
 
--- what `run_wide` prints, with a usage text that has these two commands too
+-- what `run_wide` prints, with a usage text that has these commands too
 abbrev pub as_helped : Printed
 as_helped = record {
   of_certificate = as_filled.of_certificate;

@@ -1,20 +1,39 @@
-//! Words that ask for indices of goodness of fit, or for the check of a certificate on them.
+//! Words that ask for indices of goodness of fit, for the check of a certificate on them, or for the verdict on random
+//! choices within a limit of steps.
 ghost use Rattle.std.specs.Prelude.{◌≡◌, map, string_bytes};
-ghost use Rattle.rp_run_wide.specs.FitHelping.{AnswersFit, begins_fit, front_status};
+ghost use Rattle.rp_run_wide.specs.FitHelping.{AnswersFit, are_for_fit, front_status, has_steps};
 
 use rp_commands::Status;
 use rp_fit_run::run_fit;
 use rp_outside::{Desk, Sink};
 use std::alloc::Global;
 
-/// Whether words begin with `fit` or `checkfit`, after the program's name.
-pub(crate) fn begins_fit(words: &[String]) -> bool
-    ensures { result ≡ begins_fit (map string_bytes words.now) }
+/// Whether words are for `run_fit`: after the program's name they begin with `fit` or `checkfit`, or with `random` where a
+/// later word is `--steps`.
+pub(crate) fn are_for_fit(words: &[String]) -> bool
+    ensures { result ≡ are_for_fit (map string_bytes words.now) }
 {
     match words {
-        [_, command, ..] => command.as_str() == "fit" || command.as_str() == "checkfit",
+        [_, command, rest @ ..] => {
+            command.as_str() == "fit"
+                || command.as_str() == "checkfit"
+                || (command.as_str() == "random" && has_steps(rest))
+        }
         _ => false,
     }
+}
+
+/// Whether one of the words is `--steps`.
+fn has_steps(mut words: &[String]) -> bool
+    ensures { result ≡ has_steps (map string_bytes words.entry.now) }
+{
+    while let [word, rest @ ..] = words {
+        if word.as_str() == "--steps" {
+            return true;
+        }
+        words = rest;
+    }
+    false
 }
 
 /// Answers words as `run_fit` does, with a hint after each error.

@@ -1,10 +1,10 @@
 //! A call of the program `rp-wide`: help pages and the version, and else an answer, with a hint after each error.
 ghost use Rattle.std.specs.Prelude.{◌≡◌, ℕ, List, None, Some, false, map, string_bytes, true};
 ghost use Rattle.rp_guide.specs.Pages.{wide_page};
-ghost use Rattle.rp_run_wide.specs.FitHelping.{AnswersFit, begins_fit};
+ghost use Rattle.rp_run_wide.specs.FitHelping.{AnswersFit, are_for_fit};
 ghost use Rattle.rp_run_wide.specs.Helping.{AnswersWithHints, GivesPage};
 
-use crate::fitting::{answer_fit, begins_fit};
+use crate::fitting::{answer_fit, are_for_fit};
 use crate::hinting::run_wide_with_hints;
 use rp_commands::Status;
 use rp_guide::{give_page, wide_page};
@@ -12,9 +12,9 @@ use rp_outside::{Desk, Sink};
 use std::alloc::Global;
 
 /// Answers the words of a command line as the program `rp-wide` does. `--help`, `COMMAND --help` and `--version` write a
-/// text to `out`, and no file is read. Words that begin with `fit` or `checkfit` are answered as by `run_fit`, and all
-/// others as by `run_wide`, with two differences on `err`: a line that says what to do follows each error, and a line
-/// follows the verdict on an accepted certificate.
+/// text to `out`, and no file is read. Words that begin with `fit` or `checkfit`, and words that begin with `random`
+/// and have `--steps`, are answered as by `run_fit`, and all others as by `run_wide`, with two differences on `err`: a line
+/// that says what to do follows each error, and a line follows the verdict on an accepted certificate.
 pub fn run_wide_with_help<D: Desk, O: Sink, E: Sink>(
     alloc: Global,
     words: &Vec<String>,
@@ -39,7 +39,7 @@ pub fn run_wide_with_help<D: Desk, O: Sink, E: Sink>(
     ensures nothing_read { (text : List ℕ)
         → wide_page (map string_bytes words.now.items) ≡ Some text → desk.new ≡ desk.old }
     ensures answers { wide_page (map string_bytes words.now.items) ≡ None
-        → begins_fit (map string_bytes words.now.items) ≡ false
+        → are_for_fit (map string_bytes words.now.items) ≡ false
         → AnswersWithHints (map string_bytes words.now.items)
         (record {
           bytes = D.bytes desk.old;
@@ -65,7 +65,7 @@ pub fn run_wide_with_help<D: Desk, O: Sink, E: Sink>(
           after = E.faults err.new;
         }) }
     ensures answers_on_fit { wide_page (map string_bytes words.now.items) ≡ None
-        → begins_fit (map string_bytes words.now.items) ≡ true
+        → are_for_fit (map string_bytes words.now.items) ≡ true
         → AnswersFit (map string_bytes words.now.items)
         (record {
           bytes = D.bytes desk.old;
@@ -105,7 +105,7 @@ fn answer_words<D: Desk, O: Sink, E: Sink>(
     out: &mut O,
     err: &mut E,
 ) -> Status
-    ensures answers { begins_fit (map string_bytes words.now.items) ≡ false
+    ensures answers { are_for_fit (map string_bytes words.now.items) ≡ false
         → AnswersWithHints (map string_bytes words.now.items)
         (record {
           bytes = D.bytes desk.old;
@@ -130,7 +130,7 @@ fn answer_words<D: Desk, O: Sink, E: Sink>(
           before = E.faults err.old;
           after = E.faults err.new;
         }) }
-    ensures answers_on_fit { begins_fit (map string_bytes words.now.items) ≡ true
+    ensures answers_on_fit { are_for_fit (map string_bytes words.now.items) ≡ true
         → AnswersFit (map string_bytes words.now.items)
         (record {
           bytes = D.bytes desk.old;
@@ -156,7 +156,7 @@ fn answer_words<D: Desk, O: Sink, E: Sink>(
           after = E.faults err.new;
         }) }
 {
-    if begins_fit(words.as_slice()) {
+    if are_for_fit(words.as_slice()) {
         answer_fit(alloc, words, desk, out, err)
     } else {
         run_wide_with_hints(alloc, words, desk, out, err)

@@ -119,13 +119,13 @@ fn told_of_all(status: Status, told: Vec<u8>) -> Result<Vec<u8>, NoMemory>
     }
 }
 
-/// A usage text, and how the commands on goodness of fit are called.
+/// A usage text, and how the commands of `run_fit` are called.
 fn with_fit_calls(usage: Vec<u8>) -> Result<Vec<u8>, NoMemory>
     ensures { IfOk result (λ all. all.items ≡ usage.items ++ fit_calls) }
 {
     let mut all = usage;
     all.extend_from_slice(
-        b"       rp-wide fit TABLE [--json]\n       rp-wide checkfit TABLE CERT\n",
+        b"       rp-wide fit TABLE [--json]\n       rp-wide checkfit TABLE CERT\n       rp-wide random BUDGETS CHOICES --steps N [--per N] [--json]\n",
     )?;
     Ok(all)
 }

@@ -116,7 +116,8 @@ fn ends_within(
     Ok(())
 }
 
-const USAGE: &str = "usage: rp-wide fit TABLE [--json]\n       rp-wide checkfit TABLE CERT\n";
+const USAGE: &str =
+    "usage: rp-wide fit TABLE [--json]\n       rp-wide checkfit TABLE CERT\n       rp-wide random BUDGETS CHOICES --steps N [--per N] [--json]\n";
 
 /// Words, the parts of the file `t.csv`, the number that a call ends with, and what is reported.
 type Row = (&'static [u8], &'static [&'static str], i32, &'static str);

@@ -19,6 +19,8 @@ mod refused;
 #[cfg(test)]
 mod searches;
 #[cfg(test)]
+mod steps;
+#[cfg(test)]
 mod verdicts;
 #[cfg(test)]
 mod worked;

@@ -13,10 +13,10 @@ const ROOM: u64 = 65_536;
 
 /// What a call did.
 #[derive(Drop)]
-struct Ended {
-    status: Status,
-    out: String,
-    err: String,
+pub(crate) struct Ended {
+    pub(crate) status: Status,
+    pub(crate) out: String,
+    pub(crate) err: String,
 }
 
 /// The words of a command line.
@@ -41,7 +41,7 @@ fn owned_files(alloc: Global, files: &[(&str, &str)]) -> Result<Vec<MemFile>, Fa
 }
 
 /// Runs words over files, with hints or without, and with the writes of these numbers failing.
-fn run_over(
+pub(crate) fn run_over(
     alloc: Global,
     words: &[&str],
     hints: bool,
@@ -61,7 +61,7 @@ fn run_over(
 }
 
 /// Asserts how a call ended.
-fn assert_ended(rt: &impl Abort, got: &Ended, status: Status, out: &str, err: &str) {
+pub(crate) fn assert_ended(rt: &impl Abort, got: &Ended, status: Status, out: &str, err: &str) {
     assert_eq!(rt; got.status, status);
     assert!(rt; got.out.as_str() == out, "{}", got.out);
     assert!(rt; got.err.as_str() == err, "{}", got.err);
@@ -187,7 +187,8 @@ fn files_are_rejected(rt: HostRuntime) -> Result<(), Fail> {
 }
 
 /// How the program is called.
-const USAGE: &str = "usage: rp-wide fit TABLE [--json]\n       rp-wide checkfit TABLE CERT\n";
+const USAGE: &str =
+    "usage: rp-wide fit TABLE [--json]\n       rp-wide checkfit TABLE CERT\n       rp-wide random BUDGETS CHOICES --steps N [--per N] [--json]\n";
 
 /// Words that the program does not take.
 const OTHERS: [&[&str]; 8] = [

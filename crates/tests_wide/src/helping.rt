@@ -185,7 +185,7 @@ fn a_hint_follows_the_usage(rt: HostRuntime) -> Result<(), Fail> {
         );
         assert!(rt;
             ended.err.as_str().ends_with(
-                "rp-wide power TABLE SEED N\n       rp-wide fit TABLE [--json]\n       rp-wide checkfit TABLE CERT\nhint: The words are not a command of this program, \
+                "rp-wide power TABLE SEED N\n       rp-wide fit TABLE [--json]\n       rp-wide checkfit TABLE CERT\n       rp-wide random BUDGETS CHOICES --steps N [--per N] [--json]\nhint: The words are not a command of this program, \
                 or a number is out of range. Run the program with --help to see its commands.\n"
             )
         );

@@ -11,3 +11,9 @@ returns-in-CheckFit-clause-written g c = rw c.in-CheckFit.is c.answer_check.ensu
 
 pub returns-in-CheckFit-clause-names : goal.returns-in-CheckFit-clause-names
 returns-in-CheckFit-clause-names g c = rw c.in-CheckFit.is c.answer_check.ensures.by_name
+
+pub returns-in-RandomWithin-clause-written : goal.returns-in-RandomWithin-clause-written
+returns-in-RandomWithin-clause-written g c = rw c.in-RandomWithin.is c.answer_random.ensures.held
+
+pub returns-in-RandomWithin-clause-names : goal.returns-in-RandomWithin-clause-names
+returns-in-RandomWithin-clause-names g c = rw c.in-RandomWithin.is c.answer_random.ensures.by_name

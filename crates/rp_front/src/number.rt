@@ -1,9 +1,9 @@
 //! Numbers among the words.
 ghost use Rattle.std.specs.Prelude.{◌≡◌, ◌≤◌, IfSome};
-ghost use Rattle.rp_panel_run.specs.Numbers.{number_in, number_with};
+ghost use Rattle.rp_front.specs.Numbers.{number_in, number_with};
 
 /// The number of a text of digits, where it is at most so many.
-pub(crate) fn number_in(most: u64, text: &[u8]) -> Option<u64>
+pub fn number_in(most: u64, text: &[u8]) -> Option<u64>
     ensures exact { result ≡ number_in most text.now }
     ensures within { IfSome result (λ n. n ≤ most) }
 {

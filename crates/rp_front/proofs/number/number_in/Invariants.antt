@@ -1,6 +1,6 @@
 use Rattle.std.proofs.Common.{◌≡◌, ◌≤◌, drop}
-use Rattle.rp_panel_run.specs.Numbers.{number_after}
-use Rattle.rp_panel_run.proofs.number.number_in.Given as goal
+use Rattle.rp_front.specs.Numbers.{number_after}
+use Rattle.rp_front.proofs.number.number_in.Given as goal
 
 abbrev pub invariant-loop-byte : goal.invariant-loop-byte
 invariant-loop-byte l = record {
