@@ -50,3 +50,4 @@ def span(command: str, name: str) -> tuple[int, int]:
 PER = span("random", "--per")
 SEED = span("power", "SEED")
 DRAWS = span("power", "N")
+STEPS = next((int(it["least"]), int(it["most"])) for it in FACTS["wide_options"] if it["name"] == "--steps")

@@ -4,12 +4,12 @@ from __future__ import annotations
 
 import json
 import os
-from typing import Any, Callable, Union
+from typing import Any, Callable, Sequence, Union
 
 from . import advice, exact, program, verifier
 from .answers import ADD_MONEY, OF_PRICES, Answers, Certificate, Checked, Patch, RandomVerdict, Verdict, demands, patches_of, reading, utilities
 from .answers import walk_of, welfares
-from .catalogue import DRAWS, PER, SEED, span
+from .catalogue import DRAWS, PER, SEED, STEPS, span
 from .faults import BadData, Failed, NoFile, Refused
 from .goodness import Fit, fit_of
 from .measures import CostMinimisation, MenuVerdict, MoneyPump, Power, Trial
@@ -245,7 +245,15 @@ def cost(technology: Any, asked: Any = None, *, decimals: Any = None, numbers: A
 
 @takes_places
 def random(
-    budgets: Any, choices: Any, per: Any = None, *, decimals: Any = None, numbers: Any = "shortest", exe: Any = None, wide: bool = True
+    budgets: Any,
+    choices: Any,
+    per: Any = None,
+    *,
+    decimals: Any = None,
+    numbers: Any = "shortest",
+    exe: Any = None,
+    wide: bool = True,
+    steps: Any = None,
 ) -> RandomVerdict:
     """Tests random utility: could a population of utility maximizers have made these choices from budgets? Returns a RandomVerdict.
 
@@ -257,7 +265,8 @@ def random(
 
     `per` rounds the shares of each budget to this number of units. The shares are taken as exact, so False is not a statistical
     rejection. Choices with too many patches or types for `rp` are tested by `rp-wide`; `wide=False` uses `rp` alone. This test can take
-    more than an hour. A terminal or a notebook says how long it has worked. Ctrl-C ends its process without a result.
+    more than an hour. `steps` stops its searches after this many steps: a result that is not found by then is undetermined. A terminal or
+    a notebook says how long it has worked. Ctrl-C ends its process without a result.
 
     References:
         Kitamura, Y. and Stoye, J. (2018). Nonparametric Analysis of Random Utility Models. Econometrica 86, 1883-1909.
@@ -265,7 +274,7 @@ def random(
         M. K. Richter (editors), Preferences, Uncertainty, and Optimality. Westview Press.
     """
     own = Choices(budgets, choices, per, forms_of(decimals, numbers))
-    out, is_wide = _of_choices(["random", BUDGETS, CHOICES, "--json", *_units(own.per)], own, exe, wide)
+    out, is_wide = _of_choices(["random", BUDGETS, CHOICES, "--json", *_units(own.per)], own, exe, wide, _limit(steps, wide))
     return RandomVerdict(own, Certificate(out.encode()), is_wide)
 
 
@@ -283,10 +292,19 @@ def patches(budgets: Any, choices: Any, per: Any = None, *, decimals: Any = None
     return patches_of(own, out)
 
 
-def _of_choices(words: list[str], own: Choices, exe: Any, wide: bool) -> tuple[str, bool]:
-    """Returns the answer of words over choices from budgets, and whether that is the wider edition's."""
+def _limit(steps: Any, wide: bool) -> list[str]:
+    """Returns the words of a limit of steps, which the wider edition alone takes."""
+    if steps is None:
+        return []
+    if not program.switch(wide, "wide"):
+        raise BadData("steps is a limit of rp-wide, which wide=False does not use: leave one of them out")
+    return ["--steps", str(program.whole(steps, "steps", *STEPS))]
+
+
+def _of_choices(words: list[str], own: Choices, exe: Any, wide: bool, more: Sequence[str] = ()) -> tuple[str, bool]:
+    """Returns the answer of words over choices from budgets, and whether that is the wider edition's, which takes `more` words."""
     files = {BUDGETS: own.budgets.csv(), CHOICES: own.choices.csv()}
-    ran, is_wide = program.of_choices(words, files, exe, wide)
+    ran, is_wide = program.of_choices(words, files, exe, wide, more)
     return program.output(ran, _explains_choices(own)), is_wide
 
 

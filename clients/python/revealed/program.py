@@ -209,13 +209,13 @@ def given(words: Sequence[str], files: Mapping[str, bytes], exe: Any = None, exp
     return Given(out, None, wider.ABSENT) if more is None else Given(output(more, explain), out, wider.ASKED)
 
 
-def of_choices(words: Sequence[str], files: Mapping[str, bytes], exe: Any = None, wide: Any = True) -> tuple[Ran, bool]:
+def of_choices(words: Sequence[str], files: Mapping[str, bytes], exe: Any = None, wide: Any = True, beside: Sequence[str] = ()) -> tuple[Ran, bool]:
     """Returns how a call over choices from budgets ended, and whether that is the end of the wider edition, which is asked where the
-    program itself refuses choices that this may take, if it is there and `wide` is true."""
+    program itself refuses choices that this may take, if it is there and `wide` is true. It alone is given the words `beside` these."""
     ran = call(words, files, exe)
     if not switch(wide, "wide") or not wider.is_refused(words[0], ended_of(ran)):
         return ran, False
-    more = call_wide(words, files, exe, is_long=True)
+    more = call_wide([*words, *beside], files, exe, is_long=True)
     return (ran, False) if more is None else (more, True)
 
 

@@ -296,6 +296,20 @@ class Built(unittest.TestCase):
         self.assertEqual((alone.homothetic, alone.certificate.data), (None, verdict.certificate.stated.data))
         self.assertIn("after 2 steps the product from 3 to 1", alone.reasons["homothetic"])
 
+    def test_a_limit_of_steps(self):
+        # A type takes a look at a patch of each of sixteen budgets, so fifteen steps find none.
+        held = revealed.random(*pairs(8), steps=15)
+        self.assertEqual((held.rational, held.wide), (None, True))
+        self.assertIn(" 15 steps", held.reason)
+        found = revealed.random(*pairs(8), steps=1_000_000)
+        self.assertEqual((found.rational, found.share, found.wide), (False, Fraction(3, 4), True))
+        # Where rp lists the types, no search is made.
+        listed = revealed.random(*pairs(1), steps=1)
+        self.assertEqual((listed.rational, listed.share, listed.wide), (False, Fraction(3, 4), False))
+        for steps, wide in ((0, True), (2**35 + 1, True), (1.5, True), ("7", True), (7, False)):
+            with self.assertRaises(revealed.BadData):
+                revealed.random(*pairs(8), steps=steps, wide=wide)
+
     def test_choices_that_rp_refuses(self):
         for count, fault in ((8, "TooManyTypes"), (11, "TooManyCombinations"), (13, "TooManyPatches")):
             for first, share in (((1, 3, 2, 2), Fraction(3, 4)), ((3, 1, 3, 1), 1)):

@@ -240,11 +240,11 @@ ask_wide <- function(words, files, engine, sheets = list(), wide = TRUE) {
 
 # The same of words over choices from budgets: a list of the output, and of `is_wide`, whether that is the wider edition's, which is
 # asked where the program itself refuses the choices, if it is there and `wide` asks for it.
-ask_choices <- function(words, files, engine, sheets, wide, good = 0) {
+ask_choices <- function(words, files, engine, sheets, wide, good = 0, beside = NULL) {
   if (!is_switch(wide)) bad_data("wide is TRUE or FALSE")
   ran <- answer(words, files, engine)
   other <- if (wide && is_refused(ran)) wide_engine(engine)
-  if (!is.null(other)) ran <- long_answer(words, files, other)
+  if (!is.null(other)) ran <- long_answer(c(words, beside), files, other)
   list(text = text_of(ran, sheets, good), is_wide = !is.null(other))
 }
 

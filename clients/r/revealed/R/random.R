@@ -1,9 +1,11 @@
 # Choices of many people from budgets.
 
-rp_random <- function(budgets, choices, per = NULL, decimals = digits, numbers = "shortest", exe = NULL, wide = TRUE, digits = NULL) {
+rp_random <- function(budgets, choices, per = NULL, decimals = digits, numbers = "shortest", exe = NULL, wide = TRUE, digits = NULL,
+                      steps = NULL) {
   own <- choices_of(budgets, choices, per, forms_of(decimals, numbers))
+  limit <- steps_of(steps, wide)
   words <- c("random", "budgets.csv", "choices.csv", "--json", units_of(own$per))
-  given <- ask_choices(words, choice_files(own), engine_of(exe), list(own$budgets, own$choices), wide)
+  given <- ask_choices(words, choice_files(own), engine_of(exe), list(own$budgets, own$choices), wide, beside = limit)
   read_random(own, given$text, given$is_wide)
 }
 
@@ -11,6 +13,14 @@ rp_random_utility <- rp_random
 
 # Returns the words of units that are asked for, a number that `per_word` gave.
 units_of <- function(per) if (!is.null(per)) c("--per", per)
+
+# Returns the words of a limit of steps, which the wider edition alone takes.
+steps_of <- function(steps, wide) {
+  if (is.null(steps)) return(NULL)
+  if (identical(wide, FALSE)) bad_data("steps is a limit of rp-wide, which wide = FALSE does not use: leave one of them out")
+  option <- Filter(function(it) it$name == "--steps", catalogue()$wide_options)[[1]]
+  c("--steps", whole_word(steps, "steps", option$least, option$most))
+}
 
 choice_files <- function(own) list(budgets.csv = csv_lines(own$budgets), choices.csv = csv_lines(own$choices))
 

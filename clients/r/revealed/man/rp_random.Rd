@@ -11,9 +11,9 @@ maximum share of the choices that such a population could have made.
 }
 \usage{
 rp_random(budgets, choices, per = NULL, decimals = digits, numbers = "shortest",
-  exe = NULL, wide = TRUE, digits = NULL)
+  exe = NULL, wide = TRUE, digits = NULL, steps = NULL)
 rp_random_utility(budgets, choices, per = NULL, decimals = digits,
-  numbers = "shortest", exe = NULL, wide = TRUE, digits = NULL)
+  numbers = "shortest", exe = NULL, wide = TRUE, digits = NULL, steps = NULL)
 
 \method{as.data.frame}{rp_random}(x, row.names = NULL, optional = FALSE,
   what = c("types", "patches"), ...)
@@ -27,6 +27,7 @@ from 1, or its value in the column \code{budget} or \code{obs} of the budgets.}
 \item{per}{the number of units that the shares of each budget are rounded to. By default nothing is rounded.}
 \item{decimals, numbers, exe, digits}{as for \code{\link{rp_test}}. The income is rounded as prices are.}
 \item{wide}{whether \code{rp-wide} is used for choices with more patches or types than \code{rp} lists.}
+\item{steps}{a limit for the searches of \code{rp-wide}, in steps. A result that is not found by then is undetermined.}
 \item{x}{a result of \code{rp_random}.}
 \item{what}{a row for each type, or a row for each patch of these types. A patch has its budget, and the share of the budget's choices
 that the types make there.}
@@ -39,7 +40,7 @@ use the method of Kitamura and Stoye (2018).
 Patches are counted from 1, budget by budget. Within a budget the first choice of each patch decides the order.
 \code{\link{rp_patches}} shows on which side of every budget each patch lies. \code{rp_random_utility} is the same call.
 
-The search of \code{rp-wide} can take more than an hour. On a terminal and in RStudio, R says how long it has worked. Ctrl-C or Esc
+The search of \code{rp-wide} can take more than an hour, unless \code{steps} sets a limit. On a terminal and in RStudio, R says how long it has worked. Ctrl-C or Esc
 ends its process without a result. On Windows the call cannot be interrupted.
 }
 \value{

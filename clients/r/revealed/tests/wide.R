@@ -153,6 +153,18 @@ v <- rp_test(p, q)
 stopifnot(v$homothetic, identical(v$wide, "homothetic"), rp_check(v, v)$accepted, is.na(rp_test(p, q, wide = FALSE)$homothetic))
 stopifnot(identical(texts(v$evidence$homothetic$values), c("1", "7330081712811/8796093022208", "21990241643181/35184372088832")))
 
+# A type takes a look at a patch of each of sixteen budgets, so fifteen steps find none. Where rp lists the types, no search is made.
+eight <- pairs_of_budgets(8, c(1, 3, 2, 2))
+held <- rp_random(eight$budgets, eight$choices, steps = 15)
+stopifnot(is.na(held$rational), held$wide, grepl(" 15 steps", held$reason))
+found <- rp_random(eight$budgets, eight$choices, steps = 1e6)
+stopifnot(!found$rational, found$wide, texts(found$share) == "3/4")
+one <- pairs_of_budgets(1, c(1, 3, 2, 2))
+listed <- rp_random(one$budgets, one$choices, steps = 1)
+stopifnot(!listed$rational, !listed$wide, texts(listed$share) == "3/4")
+for (steps in list(0, 2^35 + 1, 1.5, TRUE)) caught(rp_random(one$budgets, one$choices, steps = steps), "rp_bad_data")
+caught(rp_random(one$budgets, one$choices, steps = 7, wide = FALSE), "rp_bad_data")
+
 for (count in c(8, 11, 13)) {
   for (share in c("3/4", "1")) {
     own <- pairs_of_budgets(count, if (share == "1") c(3, 1, 3, 1) else c(1, 3, 2, 2))
