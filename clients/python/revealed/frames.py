@@ -12,6 +12,8 @@ from . import exact
 from .catalogue import ID_COLUMNS
 from .faults import BadData, Pooled, Refused, WrongColumns
 
+# What is said of other columns, where nothing tells which of them are prices.
+OF_LINES = "rename them; the intercepts of budget lines of two goods stand in i_NAME, in place of p_NAME"
 OTHER_NAMES = re.compile(r"([pqxw])[ ._-]?(\d+)", re.I)
 
 
@@ -142,7 +144,7 @@ def pairs_of(frame: Frame, first: str, second: str, file: str, others: Sequence[
     prices, quantities = starting(frame.names, first), starting(frame.names, second)
     if not prices and not quantities:
         kinds = [f"{first}NAME and {second}NAME for each {'input' if first == 'w_' else 'good'}", *others]
-        raise WrongColumns(kinds, frame.names, file, renames(frame.names, first, second))
+        raise WrongColumns(kinds, frame.names, file, renames(frame.names, first, second) or (OF_LINES if first == "p_" else None))
     goods = list(dict.fromkeys([*(name[2:] for name in prices), *(name[2:] for name in quantities)]))
     for own, other in [*((it, second + it[2:]) for it in prices), *((it, first + it[2:]) for it in quantities)]:
         if other not in frame.columns:

@@ -41,7 +41,8 @@ def find(exe: Any = None) -> str:
     found = inside() or shutil.which(NAME)
     if found is None:
         where = f"neither a program {NAME} nor a library {library.NAME} is inside the package, and no {NAME} is on the path"
-        raise NoProgram(f"{where}: say exe=, or set {VARIABLE} or {library.VARIABLE}")
+        release = "Install the package of a release, which has the library inside: pip install and the name of its wheel or of its .tar.gz"
+        raise NoProgram(f"{where}. {release}. Or name a program or a library: say exe=, or set {VARIABLE} or {library.VARIABLE}.")
     return os.path.abspath(found)
 
 

@@ -22,6 +22,12 @@ from .verifier import NoCertificate, NoTable
 USAGE = """usage: python -m revealed.verify TABLE CERT
        python -m revealed.verify BUDGETS CHOICES CERT [--per N]"""
 
+# What is said of a file that is no certificate of this kind.
+WHAT_TO_DO = "Use the certificate exactly as the program wrote it: one on a table with TABLE, one on choices with BUDGETS and CHOICES."
+
+# What is said of a file that is no table, and no budgets with choices.
+WHAT_TABLE = "Correct the file: docs/reference/files.md describes it, and rp-wide analyse names the row and the column of a table."
+
 
 def main(words: Sequence[str]) -> int:
     names, per = list(words), None
@@ -43,7 +49,13 @@ def main(words: Sequence[str]) -> int:
         return 4
     try:
         found = verify(data[0] if len(data) == 2 else (data[0], data[1]), data[-1], per=per)
-    except (NoCertificate, NoFile, NoTable, ValueError) as wrong:
+    except NoCertificate as wrong:
+        print(f"refused: {names[-1]}: {wrong}. {WHAT_TO_DO}", file=sys.stderr)
+        return 4
+    except NoTable as wrong:
+        print(f"refused: {' or '.join(names[:-1])}: {wrong}. {WHAT_TABLE}", file=sys.stderr)
+        return 4
+    except (NoFile, ValueError) as wrong:
         print(f"refused: {wrong}", file=sys.stderr)
         return 4
     try:

@@ -258,6 +258,9 @@ class Tables(unittest.TestCase):
             with self.assertRaises(WrongColumns) as caught:
                 from_frame(d)
             self.assertEqual((caught.exception.wanted, caught.exception.found), ([wanted], found))
+        # the columns of an experiment: that intercepts are taken is said
+        with self.assertRaisesRegex(WrongColumns, "'x_max', 'y_max', 'x', 'y': rename them; the intercepts .* i_NAME"):
+            from_frame({"x_max": [10], "y_max": [10], "x": [5], "y": [5]})
         with self.assertRaises(WrongColumns) as caught:
             from_frame({"p1": [1], "x1": [1]})
         self.assertIn("{'p1': 'p_1', 'x1': 'q_1'}", str(caught.exception))

@@ -452,7 +452,8 @@ class Programs(unittest.TestCase):
                     revealed.analyse(P, Q)
                 del os.environ["RP_EXEC"]
                 os.environ["PATH"] = os.path.join(folder, "nothing here")
-                with self.assertRaises(NoProgram):
+                # What to do is said: which package has the program inside, and what names another one.
+                with self.assertRaisesRegex(NoProgram, r"Install the package of a release.*pip install.*exe=.*RP_EXEC.*RP_LIBRARY"):
                     revealed.analyse(P, Q)
             finally:
                 os.environ["RP_EXEC"], os.environ["PATH"] = program, path

@@ -457,7 +457,14 @@ class Told(unittest.TestCase):
     def test_at_the_command_line(self):
         with tempfile.TemporaryDirectory() as folder:
             good = {"item": "garp", "cycle": [1, 2, 1]}
-            files = {"t.csv": CONTRADICTION, "good.json": certificate(good), "bad.json": certificate(RANKS), "none.json": certificate()}
+            files = {
+                "t.csv": CONTRADICTION,
+                "good.json": certificate(good),
+                "bad.json": certificate(RANKS),
+                "none.json": certificate(),
+                "cut.json": certificate(good)[:-1],
+                "bad.csv": b"p_a,q_a\nx,1\n",
+            }
             for name, data in files.items():
                 (pathlib.Path(folder) / name).write_bytes(data)
             chosen = [str(EXAMPLES / name) for name in ("budgets.csv", "choices.csv", "choices.json")]
@@ -468,6 +475,11 @@ class Told(unittest.TestCase):
                 (["t.csv"], 2, "usage"),
                 (["t.csv", "not there"], 3, "cannot be read"),
                 (["t.csv", "t.csv"], 4, "refused"),
+                # which file, and what to do
+                (["bad.csv", "good.json"], 4, "refused: bad.csv: record 1: 'x' is no number. Correct the file"),
+                (["t.csv", "cut.json"], 4, "refused: cut.json: no JSON"),
+                (["t.csv", "cut.json"], 4, "Use the certificate exactly as the program wrote it"),
+                ([*chosen[:2], "good.json"], 4, "one on choices with BUDGETS and CHOICES"),
                 (["good.json", "t.csv"], 4, "refused: good.json is JSON"),
                 (chosen, 0, "random violated"),
                 ([*chosen, "--per", "8"], 1, "not proved"),

@@ -269,13 +269,14 @@ def _goods(header, prefix, others, with_quantities=None):
         wanted |= {with_quantities + good for good in goods}
     wrong = (wanted - set(header)) | (set(header) - wanted - others)
     if wrong:
-        raise NoTable(f"these columns are missing or too many: {sorted(wrong)}")
+        names = ", ".join(repr(name[:40]) for name in sorted(wrong)[:8])
+        raise NoTable(f"{len(wrong)} columns are missing or too many: {names}{' and others' if len(wrong) > 8 else ''}")
     if not 1 <= len(goods) <= 16:
         raise NoTable("there are 1 to 16 goods")
     for good in goods:
         name = good.encode("utf-8", "surrogateescape")
         if not 1 <= len(name) <= 64 or min(name) < 0x20:
-            raise NoTable(f"{good!r} is no name of a good: it has 1 to 64 bytes, none of them a control character")
+            raise NoTable(f"{good[:40]!r} is no name of a good: it has 1 to 64 bytes, none of them a control character")
     return goods
 
 

@@ -89,7 +89,7 @@ sides_of <- function(d, in_panel = FALSE) {
   if (is_line) prices <- starting(names(d), "i_")
   quantities <- starting(names(d), "q_")
   wanted <- "a table has a column p_NAME, the price, and a column q_NAME, the quantity, for each good NAME"
-  if (!length(c(prices, quantities))) bad_data(wanted, ", perhaps e and obs; found: ", listed(names(d)))
+  if (!length(c(prices, quantities))) bad_data(wanted, ", perhaps e and obs. The intercepts of budget lines of two goods stand in i_NAME, in place of p_NAME. Rename the columns; found: ", listed(names(d)))
   for (name in names(d)[names(d) %in% c(prices, quantities)]) {
     other <- paste0(if (startsWith(name, first)) "q_" else first, substring(name, 3))
     if (!other %in% names(d)) unpaired(d, name, paste0("there is no column ", quoted(other), "; ", wanted, "; found: ", listed(names(d))))
