@@ -1,7 +1,7 @@
 # Completion of rp, rp-wide and rp-panel in fish. Made by tools/make/catalogue.
 complete -c rp -n __fish_use_subcommand -f -a pairs -d 'The first two observations of a table that contradict each other'
 complete -c rp -n __fish_use_subcommand -f -a analyse -d 'The verdicts on a table, with their evidence'
-complete -c rp -n __fish_use_subcommand -f -a certify -d 'The same as a certificate'
+complete -c rp -n __fish_use_subcommand -f -a certify -d 'The verdicts on a table with their evidence, as a certificate'
 complete -c rp -n __fish_use_subcommand -f -a check -d 'The checker\'s verdict on a certificate on a table'
 complete -c rp -n __fish_use_subcommand -f -a demand -d 'Demand at new prices that a table supports'
 complete -c rp -n __fish_use_subcommand -f -a welfare -d 'The bounds on the money metric of a table\'s observations at new prices'
@@ -20,7 +20,7 @@ complete -c rp -n '__fish_seen_subcommand_from random' -l json
 complete -c rp -n '__fish_seen_subcommand_from checkrandom patches menus' -l per -x
 complete -c rp-wide -n __fish_use_subcommand -f -a pairs -d 'The first two observations of a table that contradict each other'
 complete -c rp-wide -n __fish_use_subcommand -f -a analyse -d 'The verdicts on a table, with their evidence'
-complete -c rp-wide -n __fish_use_subcommand -f -a certify -d 'The same as a certificate'
+complete -c rp-wide -n __fish_use_subcommand -f -a certify -d 'The verdicts on a table with their evidence, as a certificate'
 complete -c rp-wide -n __fish_use_subcommand -f -a check -d 'The checker\'s verdict on a certificate on a table'
 complete -c rp-wide -n __fish_use_subcommand -f -a demand -d 'Demand at new prices that a table supports'
 complete -c rp-wide -n __fish_use_subcommand -f -a welfare -d 'The bounds on the money metric of a table\'s observations at new prices'

@@ -4,7 +4,7 @@ _rp_commands() {
   local -a commands=(
     'pairs:The first two observations of a table that contradict each other'
     'analyse:The verdicts on a table, with their evidence'
-    'certify:The same as a certificate'
+    'certify:The verdicts on a table with their evidence, as a certificate'
     'check:The checker'\''s verdict on a certificate on a table'
     'demand:Demand at new prices that a table supports'
     'welfare:The bounds on the money metric of a table'\''s observations at new prices'

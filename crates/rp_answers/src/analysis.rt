@@ -26,7 +26,7 @@ pub fn analysis_text<P: Edition>(
 }
 
 /// The certificate of the verdicts on a table.
-fn analyse(alloc: Global, table: &Table) -> Result<Certificate, NoMemory>
+pub fn analyse(alloc: Global, table: &Table) -> Result<Certificate, NoMemory>
     ensures { IfOk result (IsAnalysis (input_of_table table.now)) }
 {
     let tested = GarpTest::of(alloc, table)?;

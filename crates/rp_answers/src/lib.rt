@@ -22,7 +22,7 @@ mod trial;
 mod utility;
 mod welfare;
 
-pub use analysis::analysis_text;
+pub use analysis::{analyse, analysis_text};
 pub use answer::Answer;
 pub use check::{check_answer, check_random_answer};
 pub use choice_limits::ChoiceLimits;

@@ -33,7 +33,7 @@ pub fn write(alloc: Global, certificate: &Certificate) -> Result<Vec<u8>, NoMemo
 }
 
 /// Makes the value of a certificate.
-fn certificate_value(alloc: Global, certificate: &Certificate) -> Result<Value, NoMemory>
+pub fn certificate_value(alloc: Global, certificate: &Certificate) -> Result<Value, NoMemory>
     ensures { IfOk result (λ v. view v ≡ certificate_value certificate.now) }
 {
     let mut members = first_members(alloc, certificate)?;

@@ -8,7 +8,7 @@ mod laws;
 mod levels;
 mod reading;
 
-pub use certificate::write;
+pub use certificate::{certificate_value, write};
 pub use fault::JsonFault;
 pub use laws::{bytes_denote_one_certificate, what_is_written_is_read};
-pub use reading::read;
+pub use reading::{read, read_certificate};

@@ -33,7 +33,11 @@ pub fn read(alloc: Global, bytes: &[u8], kind: Kind) -> Result<Certificate, Json
 }
 
 /// The certificate of a kind that a value denotes.
-fn read_certificate(alloc: Global, value: &Value, kind: Kind) -> Result<Certificate, JsonFault>
+///
+/// # Errors
+/// `BadVersion` if the version is neither 1 nor 2; `BadShape` with the number, from 1, of the first item that is none, or
+/// 0 if the whole is not such a certificate; `NoMemory` if memory runs out.
+pub fn read_certificate(alloc: Global, value: &Value, kind: Kind) -> Result<Certificate, JsonFault>
     ensures { IsDenotedBy kind (view value.now) result }
 {
     let Some((version, values)) = top_of(value, kind) else {

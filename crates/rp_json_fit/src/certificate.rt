@@ -14,14 +14,14 @@ use std::alloc::Global;
 pub fn write_fit(alloc: Global, items: &[FitItem]) -> Result<Vec<u8>, NoMemory>
     ensures { IfOk result (λ text. text.items ≡ fit_text items.now) }
 {
-    let value = certificate_value(alloc, items)?;
+    let value = fit_value(alloc, items)?;
     let mut text = value.to_vec(alloc)?;
     text.push(b'\n')?;
     Ok(text)
 }
 
 /// Makes the value of the certificate with these items.
-fn certificate_value(alloc: Global, items: &[FitItem]) -> Result<Value, NoMemory>
+pub fn fit_value(alloc: Global, items: &[FitItem]) -> Result<Value, NoMemory>
     ensures { IfOk result (λ v. view v ≡ fit_value items.now) }
 {
     let items = items_value(alloc, items)?;

@@ -23,7 +23,7 @@ pub fn read_fit(alloc: Global, bytes: &[u8]) -> Result<Seq<FitItem>, JsonFault>
     ensures { IsFitDenoted bytes.now result }
 {
     match Value::from_slice(alloc, bytes) {
-        Ok(value) => read_certificate(alloc, &value),
+        Ok(value) => read_fit_value(alloc, &value),
         Err(error) => Err(if error.is_memory() {
             JsonFault::NoMemory
         } else {
@@ -32,8 +32,12 @@ pub fn read_fit(alloc: Global, bytes: &[u8]) -> Result<Seq<FitItem>, JsonFault>
     }
 }
 
-/// The items of the certificate that a value denotes.
-fn read_certificate(alloc: Global, value: &Value) -> Result<Seq<FitItem>, JsonFault>
+/// The items of the certificate on goodness of fit that a value denotes.
+///
+/// # Errors
+/// `BadVersion` if the version is not 1; `BadShape` with the number, from 1, of the first item that is none, or 0 if the
+/// whole is not such a certificate; `NoMemory` if memory runs out.
+pub fn read_fit_value(alloc: Global, value: &Value) -> Result<Seq<FitItem>, JsonFault>
     ensures { IsFitDenotedBy (view value.now) result }
 {
     let Some((version, values)) = top_of(value) else {

@@ -46,7 +46,7 @@ pub fn drawn(alloc: Global, table: &Table, costs: &Costs, words: &[u32]) -> Resu
 }
 
 /// The names of a table's goods.
-fn copy_names(alloc: Global, table: &Table) -> Result<Vec<Name>, NoMemory>
+pub fn copy_names(alloc: Global, table: &Table) -> Result<Vec<Name>, NoMemory>
     ensures { IfOk result (λ names. names.items ≡ table.now.names) }
 {
     let mut names = Vec::new(alloc);
@@ -57,7 +57,7 @@ fn copy_names(alloc: Global, table: &Table) -> Result<Vec<Name>, NoMemory>
 }
 
 /// The prices of a table, by observation and then good.
-fn copy_prices(alloc: Global, table: &Table) -> Result<Vec<u32>, NoMemory>
+pub fn copy_prices(alloc: Global, table: &Table) -> Result<Vec<u32>, NoMemory>
     ensures { IfOk result (λ prices. prices.items ≡ table.now.prices) }
 {
     let mut prices = Vec::new(alloc);

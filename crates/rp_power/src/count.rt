@@ -74,7 +74,7 @@ fn draw_words(generator: &mut Lcg64Xsh32, count: u32, words: &mut Vec<u32>) -> R
 /// Whether quantities, by observation and then good, fail the axiom at the prices of a table. The costs of bundles where
 /// they are bought stand in `own`. Those of all bundles at all prices stand in `every`, where no two bundles contradict
 /// each other.
-fn quantities_fail(
+pub fn quantities_fail(
     alloc: Global,
     table: &Table,
     quantities: &[u32],

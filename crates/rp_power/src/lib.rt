@@ -11,8 +11,8 @@ mod shares;
 mod spending;
 mod words;
 
-pub use behaviour::drawn;
-pub use count::power;
+pub use behaviour::{copy_names, copy_prices, drawn};
+pub use count::{power, quantities_fail};
 pub use report::report_power;
 pub use shares::leave_not_all_zero;
 pub use words::{draw, generator};

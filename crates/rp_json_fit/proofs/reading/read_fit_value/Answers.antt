@@ -2,7 +2,7 @@ use Rattle.std.proofs.Common.{arith, inl, map, refl}
 use Rattle.serde_json.specs.View.{view}
 use Rattle.rp_json_fit.proofs.ItemListLemmas.{whole_found}
 use Rattle.rp_json_fit.proofs.TopLemmas.{no_top}
-use Rattle.rp_json_fit.proofs.reading.read_certificate.Goals as goal
+use Rattle.rp_json_fit.proofs.reading.read_fit_value.Goals as goal
 
 pub returns-in_default : goal.returns-in_default
 returns-in_default c =
