@@ -129,7 +129,7 @@ fn welfare_on<S: BoundSearch>(
     }
 }
 
-/// The same where the new prices have so many places.
+/// The bounds on the money metric at new prices that have so many places.
 fn welfare_at<S: BoundSearch>(
     alloc: Global,
     table: &Table,

@@ -56,7 +56,8 @@ pub extern "C" fn rp_answer(
     .number()
 }
 
-/// The same by the edition that fills what is withheld, as `rp-wide` does. Words of `fit` and `checkfit` are answered too.
+/// The answer of `rp-wide`, which fills what is withheld, to the words of a command line over files in memory. Words of
+/// `fit` and `checkfit` are answered too.
 #[unsafe(no_mangle)]
 pub extern "C" fn rp_answer_wide(
     alloc: Global,

@@ -45,7 +45,7 @@ pub fn answer(
     )
 }
 
-/// The same by any edition of the program, whose texts these are.
+/// Answers words over files in memory as `answer` does, by any edition of the program, whose texts these are.
 pub fn answer_edition<P: Edition>(
     alloc: Global,
     words: &[u8],

@@ -23,7 +23,7 @@ pub fn check_kept(input: &Input<'_>, part: &KeptPart) -> Result<(), Failure>
     check_clauses(input, part)
 }
 
-/// The same, clause by clause.
+/// Checks the clauses on the most observations that are consistent, one after the other.
 fn check_clauses(input: &Input<'_>, part: &KeptPart) -> Result<(), Failure>
     ensures { KeptFails (records_of input.now.table.now) (cost_of input.now.table.now)
         part.now result }

@@ -41,7 +41,7 @@ pub fn check_violations(input: &Input<'_>, part: &ViolationsPart) -> Result<(), 
     check_counts(input, part)
 }
 
-/// The same, clause by clause.
+/// Checks each number of violating pairs, one after the other.
 fn check_counts(input: &Input<'_>, part: &ViolationsPart) -> Result<(), Failure>
     ensures { ViolationsFail (input_of_table input.now.table.now) part.now result }
 {

@@ -28,7 +28,7 @@ pub fn check_levels(input: &Input<'_>, part: &LevelsPart) -> Result<(), Failure>
     check_clauses(input, part)
 }
 
-/// The same, clause by clause.
+/// Checks the clauses on levels of the observations' own, one after the other.
 fn check_clauses(input: &Input<'_>, part: &LevelsPart) -> Result<(), Failure>
     ensures { LevelsFail (records_of input.now.table.now) (cost_of input.now.table.now)
         part.now result }

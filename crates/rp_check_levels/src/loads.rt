@@ -152,7 +152,7 @@ fn goes_by(input: &Input<'_>, measure: Measure, walk: &[u32], s: u32, t: u32) ->
     loads_at_some(input, measure, walk, s, t)
 }
 
-/// The same by the places of the walk.
+/// Whether at some place of the walk a step loads the step from `s` to `t`, or the level of `s` by the bundle of `t`.
 fn loads_at_some(input: &Input<'_>, measure: Measure, walk: &[u32], s: u32, t: u32) -> bool
     requires observed { AreObserved (records_of input.now.table.now) walk.now }
     requires some { 0 < length walk.now }

@@ -32,7 +32,7 @@ pub fn check_steps(input: &Input<'_>, part: &StepsPart) -> Result<(), Failure>
     check_clauses(input, part)
 }
 
-/// The same, clause by clause.
+/// Checks the clauses on the least cost of strict steps, one after the other.
 fn check_clauses(input: &Input<'_>, part: &StepsPart) -> Result<(), Failure>
     ensures { StepsFail (records_of input.now.table.now) (cost_of input.now.table.now)
         part.now result }

@@ -47,7 +47,7 @@ fn is_simple(input: &Input<'_>, walk: &[u32]) -> bool
     is_simple_by_places(input, walk)
 }
 
-/// The same by the places of the walk.
+/// Whether the places of a walk show a closed walk of strict steps through no observation twice.
 fn is_simple_by_places(input: &Input<'_>, walk: &[u32]) -> bool
     ensures { IsTrue result ↔ (ClosesStrictly (records_of input.now.table.now)
         (cost_of input.now.table.now) walk.now × ArePlacesDistinct walk.now) }

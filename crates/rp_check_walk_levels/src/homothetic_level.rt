@@ -32,7 +32,7 @@ pub fn check_homothetic_level(input: &Input<'_>, part: &HomotheticLevelPart) -> 
     check_clauses(input, part)
 }
 
-/// The same, clause by clause.
+/// Checks the clauses on the level at which the homothetic test holds, one after the other.
 fn check_clauses(input: &Input<'_>, part: &HomotheticLevelPart) -> Result<(), Failure>
     ensures { HomotheticLevelFails (records_of input.now.table.now)
         (cost_of input.now.table.now) part.now result }

@@ -43,7 +43,7 @@ pub fn check_pump(input: &Input<'_>, part: &PumpPart) -> Result<(), Failure>
     check_clauses(input, part)
 }
 
-/// The same, clause by clause.
+/// Checks the clauses on the money pump, one after the other.
 fn check_clauses(input: &Input<'_>, part: &PumpPart) -> Result<(), Failure>
     ensures { PumpFails (records_of input.now.table.now) (cost_of input.now.table.now)
         part.now result }

@@ -35,7 +35,7 @@ pub fn check_quasilinear_level(
     check_clauses(input, part)
 }
 
-/// The same, clause by clause.
+/// Checks the clauses on the level at which the quasilinear test holds, one after the other.
 fn check_clauses(input: &Input<'_>, part: &QuasilinearLevelPart) -> Result<(), Failure>
     ensures { QuasilinearLevelFails (records_of input.now.table.now)
         (cost_of input.now.table.now) part.now result }

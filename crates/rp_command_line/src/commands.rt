@@ -13,7 +13,7 @@ pub enum Command {
     Pairs,
     /// The verdicts on a table, with their evidence.
     Analyse,
-    /// The same as a certificate.
+    /// The verdicts on a table with their evidence, as a certificate.
     Certify,
     /// The checker's verdict on a certificate on a table.
     Check,
@@ -54,7 +54,7 @@ pub enum FileSet {
     TableAndBundles,
     /// Budgets, and choices from them.
     Choices,
-    /// The same, and a certificate on them.
+    /// Budgets, choices from them, and a certificate on these.
     ChoicesAndCertificate,
     /// Menus, and choices from them.
     Menus,
@@ -207,7 +207,7 @@ fn over(name: &'static str, files: FileSet) -> CommandForm
 }
 
 impl CommandForm {
-    /// The same form with these numbers after the files.
+    /// This form with these numbers after the files.
     fn with_numbers(self, numbers: &'static [NumberArgument]) -> CommandForm
         ensures { named_form result
             ≡ with_numbers (map named_number numbers.now) (named_form self) }
@@ -215,21 +215,21 @@ impl CommandForm {
         CommandForm { numbers, ..self }
     }
 
-    /// The same form with the option `--per N`.
+    /// This form with the option `--per N`.
     fn with_per(self) -> CommandForm
         ensures { named_form result ≡ with_per (named_form self) }
     {
         CommandForm { per: true, ..self }
     }
 
-    /// The same form with the option `--json`.
+    /// This form with the option `--json`.
     fn with_json(self) -> CommandForm
         ensures { named_form result ≡ with_json (named_form self) }
     {
         CommandForm { json: true, ..self }
     }
 
-    /// The same form of a command that takes tables with levels.
+    /// This form of a command that takes tables with levels.
     fn with_levels(self) -> CommandForm
         ensures { named_form result ≡ with_levels (named_form self) }
     {

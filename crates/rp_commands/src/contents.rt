@@ -154,7 +154,8 @@ pub(crate) fn load_patches<'a, P: Edition, D: Desk>(
     patches_of::<P>(alloc, &budgets, &choices, line.arguments.per)
 }
 
-/// The same, and then a certificate on them in a third file, which is read before the patches are made.
+/// The patches of choices from budgets with their rational types, and a certificate on them in a third file, which is
+/// read before the patches are made.
 pub(crate) fn load_patches_certificate<'a, P: Edition, D: Desk>(
     alloc: Global,
     desk: &mut D,

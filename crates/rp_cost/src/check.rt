@@ -90,7 +90,7 @@ fn lower_holds(question: &Question<'_>, lower: &Bound) -> bool
     holds_over(question, &list[..count], lower)
 }
 
-/// The same over these observations.
+/// Whether a shown bound is what the price side costs in an equal pair of the program over these observations.
 fn holds_over(question: &Question<'_>, listed: &[u32], lower: &Bound) -> bool
     requires observed { All (λ t. t < records_of question.now.tech.now.table) listed.now }
     requires few { length listed.now ≤ RECORDS }

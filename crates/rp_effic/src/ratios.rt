@@ -30,7 +30,7 @@ pub fn sampled_ratios(
     Ok(ratios)
 }
 
-/// The same in the order of the observations.
+/// One ratio of each observation, and 1, in the order of the observations.
 fn all_sampled(alloc: Global, costs: &Costs, steps: &WeakSteps) -> Result<Vec<Ratio>, NoMemory>
     requires { AreWeakSteps costs.now.n costs.now.n (cost_at costs.now)
         steps.now.starts.items steps.now.to.items }
@@ -82,7 +82,7 @@ pub fn ratios_between(
     Ok(ratios)
 }
 
-/// The same in the order of the observations.
+/// The ratios between the ends of a bracket, and its upper end, in the order of the observations.
 fn all_between(
     alloc: Global,
     costs: &Costs,

@@ -48,7 +48,7 @@ impl Graph {
         Ok(Graph { rows })
     }
 
-    /// The same numbers again.
+    /// A copy of these numbers.
     pub(crate) fn copied(&self, alloc: Global) -> Result<Graph, NoMemory> {
         let mut rows = Vec::new(alloc);
         for k in 0..self.rows.len() {

@@ -19,7 +19,7 @@ fn price(input: &Input<'_>, measure: Measure, s: u32, t: u32) -> u64
     u64::try_from(limit(input, measure, s, t)).unwrap_or(0)
 }
 
-/// The same for the steps from `s`.
+/// What the weights of walks may load each step from `s`, or the level by it: 0 where the step is not strict.
 fn row_of_prices(
     alloc: Global,
     input: &Input<'_>,

@@ -38,7 +38,7 @@ pub fn search_steps(
     }
 }
 
-/// The same lists again.
+/// A copy of these lists.
 fn copied(alloc: Global, lists: &[Seq<u32>]) -> Result<Vec<Seq<u32>>, NoMemory> {
     let mut copy = Vec::new(alloc);
     for k in 0..lists.len() {

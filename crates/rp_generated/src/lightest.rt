@@ -79,7 +79,8 @@ impl Begun {
         }
     }
 
-    /// It with a patch of the next budget; none where no rational type that begins so weighs less than this.
+    /// This partial type with a patch of the next budget; none where no rational type that begins
+    /// so weighs less than this.
     fn with(
         &self,
         patches: &Patches,

@@ -127,7 +127,7 @@ pub fn read_random(alloc: Global, value: &Value) -> Result<Option<Random>, NoMem
 /// The denominator, the item's name, the parts and the total.
 type MixtureFields = (Natural, (Named<RandomTag>, (Seq<TypeShare>, (Natural, ()))));
 
-/// The same, with the weights of the patches.
+/// The weights of the patches after the denominator, the item's name, the parts and the total.
 type ViolatedFields = (
     Natural,
     (

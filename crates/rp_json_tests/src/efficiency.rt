@@ -80,7 +80,7 @@ const MISSED: [&str; 5] = ["above", "at_cycle", "below", "item", "level"];
 /// A walk above, ranks at the index, ranks below it, the item's name and the level.
 type AttainedFields = (Seq<Observation>, (Seq<Count>, BelowFields));
 
-/// The same with a cycle at the index.
+/// A cycle at the index, and after it the members of an index that is attained.
 type MissedFields = (Seq<Observation>, (Seq<Observation>, BelowFields));
 
 /// Ranks below the index, the item's name and the level.

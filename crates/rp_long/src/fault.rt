@@ -21,9 +21,9 @@ pub enum LongFault {
 /// Why a record is refused for its id, without the blanks round it.
 #[derive(Clone, Copy, Debug, PartialEq, Eq)]
 pub enum IdFault {
-    /// There is none.
+    /// The record has no id.
     NoId,
-    /// It has more than `HOUSEHOLD_BYTES` bytes.
+    /// The id has more than `HOUSEHOLD_BYTES` bytes.
     LongId,
 }
 

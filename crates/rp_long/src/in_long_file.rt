@@ -28,7 +28,7 @@ fn column_in(columns: &[usize], column: u32) -> u32
     }
 }
 
-/// The same fault with its place in the long file, where the part has these records and these columns of it.
+/// A fault of a part with its place in the long file, of which the part has these records and these columns.
 #[tactic(auto, unfolding(crate::specs::InLongFile::in_long_file))]
 pub(crate) fn in_long_file(rows: &[u32], columns: &[usize], fault: TableFault) -> TableFault
     ensures { result ≡ in_long_file rows.now columns.now fault }

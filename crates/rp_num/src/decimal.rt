@@ -17,9 +17,9 @@ pub struct Decimal {
 /// Why a text is no decimal number.
 #[derive(Clone, Copy, Debug, PartialEq, Eq)]
 pub enum NumFault {
-    /// It is not digits, or digits, a point and digits.
+    /// The text is not digits, or digits, a point and digits.
     Bad,
-    /// It has more than 6 places, where zeros at the end do not count.
+    /// The number has more than 6 places, where zeros at the end do not count.
     Decimals,
 }
 

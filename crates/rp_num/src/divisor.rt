@@ -60,7 +60,7 @@ fn odd_gcd(odd: u128, other: u128) -> u128
     }
 }
 
-/// The same by halving and differences, down to one word.
+/// The greatest common divisor of an odd number and another, by halving and differences, down to one word.
 fn wide_gcd(odd: u128, other: u128) -> u128
     requires { odd % 2 ≡ 1 }
     ensures { IsGcd odd other result }
@@ -82,7 +82,7 @@ fn wide_gcd(odd: u128, other: u128) -> u128
     u128::from(word_gcd(x as u64, y as u64))
 }
 
-/// The same in one word.
+/// The greatest common divisor of an odd number and another, in one word.
 fn word_gcd(odd: u64, other: u64) -> u64
     requires { odd % 2 ≡ 1 }
     ensures { IsGcd odd other result }

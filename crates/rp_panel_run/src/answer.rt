@@ -264,7 +264,7 @@ fn bounds_text_at(
     bounds_text_by::<BoundsAsStated>(alloc, question, asked, new, panel)
 }
 
-/// The same with the bounds found so.
+/// The text of the bounds of this panel, which this search finds.
 fn bounds_text_by<S: BoundSearch>(
     alloc: Global,
     question: &Question<'_>,
@@ -293,7 +293,7 @@ fn table_text(
     table_text_by::<AsStated>(alloc, question, panel)
 }
 
-/// The same with the homothetic test answered so.
+/// The text of the table of this panel, with this homothetic test.
 fn table_text_by<T: HomotheticTest>(
     alloc: Global,
     question: &Question<'_>,

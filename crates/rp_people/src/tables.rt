@@ -40,7 +40,8 @@ pub fn rationalized_by_levels<P: BundleRelation>()
         (WeakByLevels input.levels input.cost) (StrictByLevels input.levels input.cost) }
 {}
 
-/// The same at a level that is common to all observations.
+/// Whose choices a table may be at a level that is common to all observations: of those that `rationalized_by_levels`
+/// has, exactly where no violation at that level exists.
 pub fn rationalized_at_level<P: BundleRelation>()
     ensures nonsatiated { (input : TableInput) (num den : ℕ)
         → IsFullInput input → IsLevel num den → HasNonsatiatedPreference (choices_at input num den)

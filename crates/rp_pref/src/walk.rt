@@ -49,7 +49,7 @@ pub fn own_walk(alloc: Global, costs: &Costs, s: u32, t: u32) -> Result<Option<S
     shortest_walk(alloc, &OwnLevels { costs }, Steps::Weak, s, t)
 }
 
-/// The same over any preference.
+/// A shortest walk by weak steps of any preference, at least one, from `s` to `t`.
 pub fn shortest_walk<P: Revealed>(
     alloc: Global,
     preference: &P,

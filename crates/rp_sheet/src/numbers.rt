@@ -67,7 +67,7 @@ pub fn column_numbers(
     Ok(numbers)
 }
 
-/// The same numbers in fewer bits.
+/// Numbers within the limit of numbers, in fewer bits.
 pub fn narrow(alloc: Global, numbers: &[u64]) -> Result<Vec<u32>, NoMemory>
     requires { All (λ n. n ≤ LARGEST) numbers.now }
     ensures { IfOk result (λ narrow. narrow.items ≡ numbers.now) }

@@ -74,7 +74,7 @@ fn greatest_places(columns: &Columns<'_>, figures: &[Seq<Decimal>], role: Role) 
     greatest
 }
 
-/// The same in one record.
+/// The greatest number of places of one record in the columns that share a scale with that role.
 fn greatest_in(columns: &Columns<'_>, figures: &[Decimal], role: Role) -> u8
     requires { length figures.now ≡ length columns.now.headers }
     ensures { result ≡ greatest_below (length columns.now.headers)

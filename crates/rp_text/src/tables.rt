@@ -27,7 +27,7 @@ pub fn read_table(alloc: Global, bytes: &[u8]) -> Result<Table, TableFault>
     read_file(alloc, bytes, &TableFile)
 }
 
-/// The same of records that are at hand: the first has the headers.
+/// Reads a table, as `read_table` does, from records that are at hand: the first has the headers.
 #[tactic(auto, unfolding(crate::specs::Denotation::denoted_table))]
 pub fn read_table_of(alloc: Global, records: &Records) -> Result<Table, TableFault>
     ensures denoted { IfOk result (λ table. denoted_table records.now ≡ Ok table) }

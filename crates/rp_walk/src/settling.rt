@@ -21,7 +21,7 @@ pub fn settle<T: Total>(alloc: Global, total: &T) -> Result<Settled<T::Value>, N
     }
 }
 
-/// The same, where no pair breaks.
+/// Settles the totals round by round, where no pair breaks.
 fn settle_by_rounds<T: Total>(alloc: Global, total: &T) -> Result<Settled<T::Value>, NoMemory>
     requires { NoPairBreaks (T.rule total.now) }
     ensures { IfOk result (IsSettled (T.rule total.now) T.fits T.exact) }

@@ -10,7 +10,7 @@ pub const CROSSED: &str = "p_a,p_b,w\n1,2,4\n2,1,4\n";
 /// quarters of the choices can be made by rational types.
 pub const VIOLATION: &str = "budget,q_a,q_b,n\n1,2,1,1\n1,0,2,3\n2,1,2,2\n2,2,0,2\n";
 
-/// The same patches, with units that a mixture makes.
+/// Choices from these two budgets that a mixture of rational types makes.
 pub const MIXTURE: &str = "budget,q_a,q_b,n\n1,2,1,3\n1,0,2,1\n2,1,2,2\n2,2,0,2\n";
 
 /// One patch on each, chosen so often that the least common multiple is too great a total.
@@ -36,7 +36,7 @@ pub const OF_VIOLATION: &str =
     "{\"items\":[{\"den\":\"1\",\"item\":\"random\",\"parts\":[[[1,4],\"1\"],[[2,3],\"2\"]],\
     \"total\":\"4\",\"weights\":[\"1\",\"0\",\"1\",\"0\"]}],\"kind\":\"random\",\"version\":1}\n";
 
-/// The same with 100 units on each budget.
+/// The certificate of `VIOLATION` with 100 units on each budget.
 pub const OF_VIOLATION_PER_100: &str =
     "{\"items\":[{\"den\":\"1\",\"item\":\"random\",\"parts\":[[[1,4],\"25\"],[[2,3],\"50\"]],\
     \"total\":\"100\",\"weights\":[\"1\",\"0\",\"1\",\"0\"]}],\"kind\":\"random\",\"version\":1}\n";
@@ -109,7 +109,7 @@ pub fn pairs(alloc: Global, n: u32) -> Result<String, AllocError>
     Ok(text)
 }
 
-/// The same four choices on each pair.
+/// Four choices on each of so many pairs of crossed budgets.
 pub fn choices_on_pairs(alloc: Global, n: u32) -> Result<String, AllocError>
     requires { n ≤ 8 }
 {

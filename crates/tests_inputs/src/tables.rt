@@ -26,7 +26,7 @@ pub const AT_800: &str = "p_a,q_a,p_b,q_b,e\n1,1,2,2,800\n2,2,1,1,1000\n";
 
 pub const AT_799: &str = "p_a,q_a,p_b,q_b,e\n1,1,2,2,799\n2,2,1,1,1000\n";
 
-/// The same with levels that take nothing away.
+/// `CONTRADICTION` with levels that take nothing away.
 pub const AT_ALL: &str = "p_a,q_a,p_b,q_b,e\n1,1,2,2,1000\n2,2,1,1,1000\n";
 
 /// `MORE_AND_LESS` with such levels.

@@ -82,7 +82,7 @@ pub(crate) fn run_failing(
     run_beside(alloc, words, text, None, fails)
 }
 
-/// The same with a file `n.csv`, where there is one.
+/// Runs the words over the file `l.csv`, and a file `n.csv` where there is one, where these calls fail.
 pub(crate) fn run_beside(
     alloc: Global,
     words: &[&str],

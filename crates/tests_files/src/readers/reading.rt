@@ -16,7 +16,7 @@ pub(crate) enum Reader {
     Levels,
     /// New prices with an expenditure, for two goods with whole quantities.
     OverWhole,
-    /// The same for quantities of two places.
+    /// New prices with an expenditure, for two goods with quantities of two places.
     OverFine,
     /// New prices alone, for whole quantities.
     WithoutM,

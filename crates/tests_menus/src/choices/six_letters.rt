@@ -14,7 +14,8 @@ const ONE_ORDER: &str =
     cdef,c,1\nabcde,a,1\nabcdf,a,1\nabcef,a,1\nabdef,a,1\nacdef,a,1\nbcdef,b,1\n\
     abcdef,a,1\n";
 
-/// The same of four persons, three of whom have two neighbours of that order exchanged: 64 cells, the most allowed.
+/// All these menus with the choices of four persons, three of whom have two neighbours of that order exchanged:
+/// 64 cells, the most allowed.
 const FOUR_ORDERS: &str =
     "menu,choice,n\nab,a,4\nac,a,4\nad,a,4\nae,a,4\naf,a,4\nbc,b,4\nbd,b,4\nbe,b,4\n\
     bf,b,4\ncd,c,3\ncd,d,1\nce,c,4\ncf,c,4\nde,d,3\nde,e,1\ndf,d,4\nef,e,3\nef,f,1\n\

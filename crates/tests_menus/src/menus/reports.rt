@@ -50,7 +50,7 @@ const MIXED: &[(&str, &str)] = &[(
      part a b weight 2\npart b a weight 4\nsums least 1 at b in b\n",
 )];
 
-/// The same of a violation.
+/// Evidence of a violation over another denominator than the one that is found.
 const HALVES: Evidence = Evidence::Violation(2, &[(&[1, 0, 2], 1), (&[1, 2, 0], 1)], &[0, 2, 0]);
 
 const VIOLATED: &[(&str, &str)] = &[(

@@ -48,7 +48,7 @@ impl Numbers {
         Ok(Seq::from_vec(list))
     }
 
-    /// The same of longer numbers.
+    /// A list of longer numbers: how many it has, and these.
     pub(crate) fn list_u64(&mut self, alloc: Global) -> Result<Seq<u64>, Fail> {
         let mut list = Vec::new(alloc);
         for _ in 0..self.next_u32() {
@@ -57,7 +57,7 @@ impl Numbers {
         Ok(Seq::from_vec(list))
     }
 
-    /// The same of the longest.
+    /// A list of the longest numbers: how many it has, and these.
     pub(crate) fn list_i128(&mut self, alloc: Global) -> Result<Seq<i128>, Fail> {
         let mut list = Vec::new(alloc);
         for _ in 0..self.next_u32() {

@@ -59,7 +59,7 @@ const ON_DRAWN: &str = "\
     8,1,2,9999,1\n8,5545,9893,9999,1\n8,9999,4,8518,1\n8,1232,9999,1599,2\n8,425,5754,9999,1\n\
     8,4904,9999,8558,1\n8,3858,8629,9999,1\n8,11,15,9999,2\n8,9999,5810,2359,1\n";
 
-/// The same answers as by all types, where these are few.
+/// Where types are few, those that are generated give the answers that all types give.
 #[test]
 fn generated_mixtures_and_violations(rt: HostRuntime) -> Result<(), Fail> {
     assert_each(&rt, rt.alloc(), Ask::Generated, CROSSED, ON_CROSSED)?;

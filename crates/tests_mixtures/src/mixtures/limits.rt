@@ -150,7 +150,7 @@ const APART: Chosen = ["2,1,1", "0,2,3", "1,2,2", "2,0,2"];
 /// A choice above the other budget, and one where the two meet.
 const MEETING: Chosen = ["2,1,1", "1,1,1", "1,2,1", "1,1,1"];
 
-/// The same four choices on each of so many pairs.
+/// Four choices on each of so many pairs.
 fn choices_on_pairs(alloc: Global, n: u32, chosen: Chosen) -> Result<String, AllocError> {
     let mut text = String::from_str(alloc, "budget,q_a,q_b,n\n")?;
     let [a, b, c, d] = chosen;

@@ -27,7 +27,7 @@ pub(crate) enum Ask {
     Counts,
     /// The evidence on random choices, its patches from 1.
     Evidence,
-    /// The same by generated types.
+    /// The evidence on random choices by generated types, its patches from 1.
     Generated,
     /// How much of the total these have, where they make no mixture.
     GeneratedShare,
