@@ -1,0 +1,3 @@
+mod DecidedFacts
+mod GivenFacts
+mod RunFacts

@@ -1,0 +1,3 @@
+pub mod CallEndings
+pub mod InnerEndings
+pub mod NamedFiles
