@@ -3,19 +3,20 @@
 //! same calls, and state those contracts again. Words of `fit` and `checkfit` have a crate of their own.
 #![tactic(auto)]
 
-ghost use Rattle.std.specs.Prelude.{◌≡◌, false, pos, true};
+ghost use Rattle.std.specs.Prelude.{◌≡◌, ◌≢◌, false, pos, true};
 ghost use Rattle.rp_frame.specs.Frames.{frame_of};
 ghost use Rattle.rp_call.specs.CallEndings.{EndsSo, EndsSoBy, IsDecided, IsDecidedBy};
 ghost use Rattle.rp_call.specs.CallEndings.{ending_number};
 ghost use Rattle.rp_call.specs.NamedFiles.{NamesSo};
 ghost use Rattle.rp_call.specs.declared.ending.Ending.{Ending};
-ghost use Rattle.rp_fit_call.specs.FitEndings as Fits;
+ghost use Rattle.rp_fit_answers.specs.GoodnessOfFit.{goodness_of_fit};
 ghost use Rattle.rp_fit_call.specs.FitWords.{asks_fit};
-ghost use Rattle.rp_fit_call.specs.NamedFiles as FitNames;
-ghost use Rattle.rp_fit_call.specs.declared.ending.Ending as FitCall;
-ghost use Rattle.rp_panel_call.specs.NamedFiles as PanelNames;
-ghost use Rattle.rp_panel_call.specs.PanelEndings as Panels;
-ghost use Rattle.rp_panel_call.specs.declared.ending.Ending as PanelCall;
+ghost use Rattle.rp_front.specs.declared.status.Status.TheVariants as status;
+ghost use Rattle.rp_front_call.specs.CallEndings as Calls;
+ghost use Rattle.rp_front_call.specs.NamedFiles as CallNames;
+ghost use Rattle.rp_front_call.specs.declared.ending.Ending as Called;
+ghost use Rattle.rp_front_call.specs.declared.ending.Ending.TheVariants as called;
+ghost use Rattle.rp_panel_run.specs.Front.{panels};
 ghost use Rattle.rp_run_wide.specs.Filling.{as_filled};
 
 use rp_call::{answer, answer_edition, name_files};
@@ -76,10 +77,11 @@ pub extern "C" fn rp_answer_wide(
         output.old output.new output_length.new told.old told.new told_length.new
         × IsDecidedBy as_filled (frame_of words.now names.now sizes.now bytes.now) ending }
     ensures answers_on_fit { asks_fit words.now ≡ true
-        → (ending : FitCall.Ending) × (result ≡ pos (Fits.ending_number ending))
-        × Fits.EndsSo (frame_of words.now names.now sizes.now bytes.now) ending
+        → (ending : Called.Ending) × (result ≡ pos (Calls.ending_number ending))
+        × Calls.EndsSo goodness_of_fit (frame_of words.now names.now sizes.now bytes.now) ending
         output.old output.new output_length.new told.old told.new told_length.new
-        × Fits.IsDecided (frame_of words.now names.now sizes.now bytes.now) ending }
+        × Calls.IsDecided goodness_of_fit
+        (frame_of words.now names.now sizes.now bytes.now) ending }
 {
     if asks_fit(words) {
         return answer_fit(
@@ -122,10 +124,11 @@ pub extern "C" fn rp_panel(
     output_length: &mut u64,
     told_length: &mut u64,
 ) -> i32
-    ensures { (ending : PanelCall.Ending) × (result ≡ pos (Panels.ending_number ending))
-        × Panels.EndsSo (frame_of words.now names.now sizes.now bytes.now) ending
+    ensures { (ending : Called.Ending) × (result ≡ pos (Calls.ending_number ending))
+        × Calls.EndsSo panels (frame_of words.now names.now sizes.now bytes.now) ending
         output.old output.new output_length.new told.old told.new told_length.new
-        × Panels.IsDecided (frame_of words.now names.now sizes.now bytes.now) ending }
+        × Calls.IsDecided panels (frame_of words.now names.now sizes.now bytes.now) ending
+        × (ending ≢ called.Ran status.Rejected) }
 {
     answer_panel(
         alloc,
@@ -153,8 +156,8 @@ pub extern "C" fn rp_files(
         → (ending : Ending) × (result ≡ pos (ending_number ending))
         × NamesSo words.now ending names.old names.new names_length.new }
     ensures names_on_fit { asks_fit words.now ≡ true
-        → (ending : FitCall.Ending) × (result ≡ pos (Fits.ending_number ending))
-        × FitNames.NamesSo words.now ending names.old names.new names_length.new }
+        → (ending : Called.Ending) × (result ≡ pos (Calls.ending_number ending))
+        × CallNames.NamesSo goodness_of_fit words.now ending names.old names.new names_length.new }
 {
     if asks_fit(words) {
         return name_fit_files(alloc, words, names, names_length).number();
@@ -170,8 +173,8 @@ pub extern "C" fn rp_panel_files(
     names: &mut [u8],
     names_length: &mut u64,
 ) -> i32
-    ensures { (ending : PanelCall.Ending) × (result ≡ pos (Panels.ending_number ending))
-        × PanelNames.NamesSo words.now ending names.old names.new names_length.new }
+    ensures { (ending : Called.Ending) × (result ≡ pos (Calls.ending_number ending))
+        × CallNames.NamesSo panels words.now ending names.old names.new names_length.new }
 {
     name_panel_files(alloc, words, names, names_length).number()
 }

@@ -1,4 +1,1 @@
-pub mod FitEndings
 pub mod FitWords
-pub mod InnerEndings
-pub mod NamedFiles

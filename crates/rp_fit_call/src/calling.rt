@@ -1,20 +1,59 @@
-//! The call.
-ghost use Rattle.std.specs.Prelude.{IfOk};
+//! The calls of the program of goodness of fit.
 ghost use Rattle.rp_frame.specs.Frames.{frame_of};
-ghost use Rattle.rp_fit_call.specs.FitEndings.{EndsSo, IsDecided, IsEndingOf};
+ghost use Rattle.rp_fit_answers.specs.GoodnessOfFit.{goodness_of_fit};
+ghost use Rattle.rp_front_call.specs.CallEndings.{EndsSo, IsDecided};
+ghost use Rattle.rp_front_call.specs.NamedFiles.{NamesSo};
 
-use crate::asking::{Texts, answer_handed, silent};
-use crate::ending::Ending;
-use rp_frame::{FrameFault, fill, read_frame};
+use crate::words::files_of_words;
+use rp_fit_run::run_fit;
+use rp_frame::TextSink;
 use rp_front::Status;
+use rp_front_call::{CalledProgram, Ending, answer_call, name_files_of};
 use rp_num::NoMemory;
+use rp_outside::SureDesk;
 use std::alloc::Global;
 
-/// Answers the words of a command line of `fit` or `checkfit` over files in memory. `words` are those after the program's name and
-/// `names` those of the files, as the words have them, each ended by a zero byte; `sizes` tells how many bytes each file
-/// has, in the order of the names, and `bytes` has them one after the other. What the program would write goes to
-/// `output` and what it would tell on standard error to `told`, each as far as there is room; how long they are goes to
-/// the last two. A file that is given twice counts as it is given first.
+/// The program of goodness of fit, as it is called over files in memory.
+struct GoodnessOfFit;
+
+impl CalledProgram for GoodnessOfFit {
+    ghost use Rattle.rp_fit_answers.specs.GoodnessOfFit.{goodness_of_fit};
+    ghost use Rattle.rp_fit_answers.proofs.Laws.{answers_accepted, never_both};
+
+    ghost meaning = { goodness_of_fit };
+
+    fn name() -> &'static [u8] {
+        b"rp"
+    }
+
+    fn memory_line() -> &'static [u8] {
+        b"rp: out of memory\n"
+    }
+
+    fn files_of_words<'a>(
+        alloc: Global,
+        words: &'a [String],
+    ) -> Result<Option<Vec<&'a str>>, NoMemory> {
+        files_of_words(alloc, words)
+    }
+
+    fn run(
+        alloc: Global,
+        words: &Vec<String>,
+        desk: &mut SureDesk,
+        out: &mut TextSink,
+        err: &mut TextSink,
+    ) -> Status {
+        run_fit::<SureDesk, TextSink, TextSink>(alloc, false, words, desk, out, err)
+    }
+
+    ghost answers_accepted = { answers_accepted };
+
+    ghost never_both = { never_both };
+}
+
+/// Answers the words of a command line of `fit` or `checkfit`, or of `random` with a limit of steps, over files in memory,
+/// as `answer_call` of `rp_front_call` does.
 pub fn answer_fit(
     alloc: Global,
     words: &[u8],
@@ -26,40 +65,32 @@ pub fn answer_fit(
     output_length: &mut u64,
     told_length: &mut u64,
 ) -> Ending
-    ensures ends { EndsSo (frame_of words.now names.now sizes.now bytes.now) result
+    ensures ends { EndsSo goodness_of_fit (frame_of words.now names.now sizes.now bytes.now) result
         output.old output.new output_length.new told.old told.new told_length.new }
-    ensures decided { IsDecided (frame_of words.now names.now sizes.now bytes.now) result }
+    ensures decided { IsDecided goodness_of_fit
+        (frame_of words.now names.now sizes.now bytes.now) result }
 {
-    match answer_frame(alloc, words, names, sizes, bytes) {
-        Ok(texts) => {
-            fill(output, texts.output.as_slice(), output_length);
-            fill(told, texts.told.as_slice(), told_length);
-            texts.ending
-        }
-        Err(NoMemory) => {
-            fill(output, b"", output_length);
-            fill(told, b"rp: out of memory\n", told_length);
-            Ending::Ran(Status::NoMemory)
-        }
-    }
+    answer_call::<GoodnessOfFit>(
+        alloc,
+        words,
+        names,
+        sizes,
+        bytes,
+        output,
+        told,
+        output_length,
+        told_length,
+    )
 }
 
-/// The answer to what a frame holds, or why there is none.
-fn answer_frame(
+/// Tells the files that these words name, in their order, as `name_files_of` of `rp_front_call` does.
+pub fn name_fit_files(
     alloc: Global,
     words: &[u8],
-    names: &[u8],
-    sizes: &[u64],
-    bytes: &[u8],
-) -> Result<Texts, NoMemory>
-    ensures { IfOk result (λ texts.
-        IsEndingOf (frame_of words.now names.now sizes.now bytes.now)
-        texts.ending texts.output.items texts.told.items) }
+    names: &mut [u8],
+    names_length: &mut u64,
+) -> Ending
+    ensures { NamesSo goodness_of_fit words.now result names.old names.new names_length.new }
 {
-    match read_frame(alloc, words, names, sizes, bytes) {
-        Ok(handed) => answer_handed(alloc, handed),
-        Err(FrameFault::Malformed) => Ok(silent(alloc, Ending::Malformed)),
-        Err(FrameFault::NoText) => Ok(silent(alloc, Ending::NoText)),
-        Err(FrameFault::NoMemory) => Err(NoMemory),
-    }
+    name_files_of::<GoodnessOfFit>(alloc, words, names, names_length)
 }

@@ -1,15 +1,10 @@
 //! Calls of the program of goodness of fit over files in memory: what it answers to words and bytes that another program hands
-//! over, and which files words name. Nothing is read, nothing is printed, and nothing is kept between calls.
+//! over, and which files words name.
 #![tactic(auto)]
 
-mod asking;
 mod calling;
-mod ending;
-mod naming;
-mod running;
 mod words;
 
-pub use calling::answer_fit;
-pub use ending::Ending;
-pub use naming::name_fit_files;
+pub use calling::{answer_fit, name_fit_files};
+pub use rp_front_call::Ending;
 pub use words::asks_fit;

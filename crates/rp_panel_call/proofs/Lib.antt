@@ -1,3 +1,1 @@
-mod DecidedFacts
-mod GivenFacts
-mod RunFacts
+mod FrontFacts

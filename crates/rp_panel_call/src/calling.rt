@@ -1,20 +1,75 @@
-//! The call.
-ghost use Rattle.std.specs.Prelude.{IfOk};
+//! The calls of the program of panels.
+ghost use Rattle.std.specs.Prelude.{◌≡◌, ◌≢◌};
 ghost use Rattle.rp_frame.specs.Frames.{frame_of};
-ghost use Rattle.rp_panel_call.specs.PanelEndings.{EndsSo, IsDecided, IsEndingOf};
+ghost use Rattle.rp_front.specs.declared.status.Status.TheVariants as status;
+ghost use Rattle.rp_front_call.specs.CallEndings.{EndsSo, IsDecided};
+ghost use Rattle.rp_front_call.specs.NamedFiles.{NamesSo};
+ghost use Rattle.rp_front_call.specs.declared.ending.Ending.TheVariants as ending;
+ghost use Rattle.rp_panel_run.specs.Front.{front_status, panels};
 
-use crate::asking::{Texts, answer_handed, silent};
-use crate::ending::Ending;
-use rp_frame::{FrameFault, fill, read_frame};
+use rp_frame::TextSink;
+use rp_front::Status;
+use rp_front_call::{CalledProgram, Ending, answer_call, name_files_of};
 use rp_num::NoMemory;
-use rp_panel_run::Status;
+use rp_outside::SureDesk;
+use rp_panel_run::{Status as PanelStatus, files_of_words, run_panel};
 use std::alloc::Global;
 
-/// Answers the words of a command line of `rp-panel` over files in memory. `words` are those after the program's name and
-/// `names` those of the files, as the words have them, each ended by a zero byte; `sizes` tells how many bytes each file
-/// has, in the order of the names, and `bytes` has them one after the other. What the program would write goes to
-/// `output` and what it would tell on standard error to `told`, each as far as there is room; how long they are goes to
-/// the last two. A file that is given twice counts as it is given first.
+/// The program of panels, as it is called over files in memory.
+struct Panels;
+
+impl CalledProgram for Panels {
+    ghost use Rattle.rp_panel_run.specs.Front.{panels};
+    ghost use Rattle.rp_panel_run.specs.Laws.{answers_accepted, never_both};
+
+    ghost meaning = { panels };
+
+    fn name() -> &'static [u8] {
+        b"rp-panel"
+    }
+
+    fn memory_line() -> &'static [u8] {
+        b"rp-panel: out of memory\n"
+    }
+
+    fn files_of_words<'a>(
+        alloc: Global,
+        words: &'a [String],
+    ) -> Result<Option<Vec<&'a str>>, NoMemory> {
+        files_of_words(alloc, words)
+    }
+
+    fn run(
+        alloc: Global,
+        words: &Vec<String>,
+        desk: &mut SureDesk,
+        out: &mut TextSink,
+        err: &mut TextSink,
+    ) -> Status {
+        front_status(run_panel(alloc, words, desk, out, err))
+    }
+
+    ghost answers_accepted = { answers_accepted };
+
+    ghost never_both = { never_both };
+}
+
+/// The status of a call, as the front has it.
+fn front_status(status: PanelStatus) -> Status
+    ensures { result ≡ front_status status }
+{
+    match status {
+        PanelStatus::Done => Status::Done,
+        PanelStatus::Usage => Status::Usage,
+        PanelStatus::ReadFault => Status::ReadFault,
+        PanelStatus::Refused => Status::Refused,
+        PanelStatus::WriteFault => Status::WriteFault,
+        PanelStatus::NoMemory => Status::NoMemory,
+    }
+}
+
+/// Answers the words of a command line of `rp-panel` over files in memory, as `answer_call` of `rp_front_call` does. A
+/// table is never rejected.
 pub fn answer_panel(
     alloc: Global,
     words: &[u8],
@@ -26,40 +81,33 @@ pub fn answer_panel(
     output_length: &mut u64,
     told_length: &mut u64,
 ) -> Ending
-    ensures ends { EndsSo (frame_of words.now names.now sizes.now bytes.now) result
+    ensures ends { EndsSo panels (frame_of words.now names.now sizes.now bytes.now) result
         output.old output.new output_length.new told.old told.new told_length.new }
-    ensures decided { IsDecided (frame_of words.now names.now sizes.now bytes.now) result }
+    ensures decided { IsDecided panels (frame_of words.now names.now sizes.now bytes.now) result }
+    ensures never_rejected { result ≢ ending.Ran status.Rejected }
 {
-    match answer_frame(alloc, words, names, sizes, bytes) {
-        Ok(texts) => {
-            fill(output, texts.output.as_slice(), output_length);
-            fill(told, texts.told.as_slice(), told_length);
-            texts.ending
-        }
-        Err(NoMemory) => {
-            fill(output, b"", output_length);
-            fill(told, b"rp-panel: out of memory\n", told_length);
-            Ending::Ran(Status::NoMemory)
-        }
-    }
+    answer_call::<Panels>(
+        alloc,
+        words,
+        names,
+        sizes,
+        bytes,
+        output,
+        told,
+        output_length,
+        told_length,
+    )
 }
 
-/// The answer to what a frame holds, or why there is none.
-fn answer_frame(
+/// Tells the files that the words of a command line of `rp-panel` name, the long file before that of new prices, as
+/// `name_files_of` of `rp_front_call` does.
+pub fn name_panel_files(
     alloc: Global,
     words: &[u8],
-    names: &[u8],
-    sizes: &[u64],
-    bytes: &[u8],
-) -> Result<Texts, NoMemory>
-    ensures { IfOk result (λ texts.
-        IsEndingOf (frame_of words.now names.now sizes.now bytes.now)
-        texts.ending texts.output.items texts.told.items) }
+    names: &mut [u8],
+    names_length: &mut u64,
+) -> Ending
+    ensures { NamesSo panels words.now result names.old names.new names_length.new }
 {
-    match read_frame(alloc, words, names, sizes, bytes) {
-        Ok(handed) => answer_handed(alloc, handed),
-        Err(FrameFault::Malformed) => Ok(silent(alloc, Ending::Malformed)),
-        Err(FrameFault::NoText) => Ok(silent(alloc, Ending::NoText)),
-        Err(FrameFault::NoMemory) => Err(NoMemory),
-    }
+    name_files_of::<Panels>(alloc, words, names, names_length)
 }

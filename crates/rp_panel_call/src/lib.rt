@@ -1,13 +1,8 @@
 //! Calls of the program of panels over files in memory: what it answers to words and bytes that another program hands
-//! over, and which files words name. Nothing is read, nothing is printed, and nothing is kept between calls.
+//! over, and which files words name.
 #![tactic(auto)]
 
-mod asking;
 mod calling;
-mod ending;
-mod naming;
-mod running;
 
-pub use calling::answer_panel;
-pub use ending::Ending;
-pub use naming::name_panel_files;
+pub use calling::{answer_panel, name_panel_files};
+pub use rp_front_call::Ending;

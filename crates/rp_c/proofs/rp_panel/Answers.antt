@@ -6,4 +6,4 @@ use Rattle.rp_c.proofs.rp_panel.Goals as goal
 pub returns : goal.returns
 returns c =
     let read = to_z-of_z w32 c.number.result (record { sfits = c.number.type_inv }) in
-    (c.answer_panel.result, read ∙ c.number.ensures, c.answer_panel.ensures.ends, c.answer_panel.ensures.decided)
+    (c.answer_panel.result, read ∙ c.number.ensures, c.answer_panel.ensures.ends, c.answer_panel.ensures.decided, c.answer_panel.ensures.never_rejected)

@@ -1,8 +1,7 @@
 use Rattle.rp_frame.specs.Frames.{frame_of}
-use Rattle.rp_panel_call.proofs.DecidedFacts.{decided}
+use Rattle.rp_panel_call.proofs.FrontFacts.{never_rejected}
 use Rattle.rp_panel_call.proofs.calling.answer_panel.Goals as goal
 
-pub returns-in-Ok-clause-decided : goal.returns-in-Ok-clause-decided
-returns-in-Ok-clause-decided c =
-    decided (frame_of c.args.words.now c.args.names.now c.args.sizes.now c.args.bytes.now) c.in-Ok.texts.ending
-    c.in-Ok.texts.output.items c.in-Ok.texts.told.items c.in-Ok.ensures
+pub returns-clause-never_rejected : goal.returns-clause-never_rejected
+returns-clause-never_rejected c =
+    never_rejected (frame_of c.args.words.now c.args.names.now c.args.sizes.now c.args.bytes.now) c.answer_call.result _ _ _ _ _ _ c.answer_call.ensures.ends

@@ -1,3 +1,0 @@
-mod DecidedFacts
-mod GivenFacts
-mod RunFacts

@@ -1,3 +1,0 @@
-pub mod PanelEndings
-pub mod InnerEndings
-pub mod NamedFiles
